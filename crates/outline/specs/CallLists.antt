@@ -1,0 +1,76 @@
+-- Document 01, "Walk and sheet": lists of calls on one walk, and lists of ends on one sheet.
+use Prim.Native.Nat.{ℕ}
+use mathlib.Core.Bool.{Bool, true, false, cond}
+use mathlib.Core.List.{List, [], _∷_, _++_}
+use lib.Dec.{eqb}
+use Rattle.outline.specs.declared.Position.{Position}
+use Rattle.outline.specs.declared.Totals.{Totals}
+use Rattle.outline.specs.declared.Walk.{Walk}
+use Rattle.outline.specs.declared.Sheet.{Sheet}
+use Rattle.outline.specs.WalkCalls.{beginCall, pointCall, endCall, abandonCall, unsoundSheet}
+
+-- ---- calls on a walk
+
+-- An end comes with whichever sheet.
+pub data Call : Type 0 where
+  begin : Call
+  point : Position → Call
+  end : Sheet → Call
+  abandon : Call
+
+-- The number that a call on the walk w answers, and the walk that it leaves.
+unfoldable pub numberOf : Walk → Call → ℕ
+numberOf w begin = beginCall w .number
+numberOf w (point p) = pointCall w p .number
+numberOf w (end s) = endCall w s .number
+numberOf w abandon = abandonCall w .number
+
+unfoldable pub walkAfter : Walk → Call → Walk
+walkAfter w begin = beginCall w .walk
+walkAfter w (point p) = pointCall w p .walk
+walkAfter w (end s) = endCall w s .walk
+walkAfter w abandon = abandonCall w .walk
+
+-- The call hands in a sheet that 28 refuses.
+unfoldable pub unsoundSheetIn : Call → Bool
+unsoundSheetIn begin = false
+unsoundSheetIn (point p) = false
+unsoundSheetIn (end s) = unsoundSheet s
+unsoundSheetIn abandon = false
+
+-- What an accepted call does to the points since the last accepted begin.
+unfoldable pub pointsWith : List Position → Call → List Position
+pointsWith ps begin = []
+pointsWith ps (point p) = ps ++ p ∷ []
+pointsWith ps (end s) = ps
+pointsWith ps abandon = ps
+
+-- A walk, and the points of the accepted point calls since the last accepted begin.
+pub record Trace : Type 0 where
+  pub walk : Walk
+  pub points : List Position
+
+unfoldable pub next : Trace → Call → Trace
+next r c = record { walk = walkAfter (r .walk) c; points = cond (eqb (numberOf (r .walk) c) 0) (pointsWith (r .points) c) (r .points) }
+
+-- Each call is given the walk that the last one left.
+unfoldable pub after : Trace → List Call → Trace
+after r [] = r
+after r (c ∷ calls) = after (next r c) calls
+
+-- Before the first call.
+abbrev pub from : Walk → Trace
+from w = record { walk = w; points = [] }
+
+-- ---- ends on a sheet, each with whichever walk
+
+unfoldable pub sheetAfter : Sheet → List Walk → Sheet
+sheetAfter s [] = s
+sheetAfter s (w ∷ ws) = sheetAfter (endCall w s .sheet) ws
+
+-- The totals that the accepted ends answered, and so added.
+unfoldable pub addedBy : Sheet → List Walk → List Totals
+addedBy s [] = []
+addedBy s (w ∷ ws) =
+    let r = endCall w s in
+    cond (eqb (r .number) 0) (r .totals ∷ addedBy (r .sheet) ws) (addedBy (r .sheet) ws)

@@ -1,0 +1,129 @@
+-- Document 01, "Walk and sheet" and the refusals 1 and 21 to 28: the outcomes of begin, point, end and abandon.
+use Prim.Native.Nat.{ℕ, _+_, _*_, _/_}
+use mathlib.Core.Bool.{Bool, true, false, not, _&&_, _||_, cond}
+use lib.Dec.{leb, ltb, eqb}
+use lib.IntN.{pos}
+use Rattle.outline.specs.declared.Position.{Position}
+use Rattle.outline.specs.declared.Totals.{Totals}
+use Rattle.outline.specs.declared.Walk.{Walk}
+use Rattle.outline.specs.declared.Sheet.{Sheet}
+use Rattle.outline.specs.EdgeSums.{six, plus, zeros, Sizes, exceed, outlineBounds}
+use Rattle.outline.specs.ListCall.{outside}
+use Rattle.outline.specs.MapCall.{totalLimits}
+
+-- ---- walks and sheets
+
+abbrev pub origin : Position
+origin = record { x = pos 0; y = pos 0 }
+
+-- What begin leaves: an open walk of 0 points, zero totals, and (0, 0) as first and last point.
+abbrev pub opened : Walk
+opened = record { is_open = true; count = 0; first = origin; last = origin; totals = zeros }
+
+-- What end and abandon leave, and what a walk is that was never opened: the same zeros, marked closed.
+abbrev pub closed : Walk
+closed = record { is_open = false; count = 0; first = origin; last = origin; totals = zeros }
+
+abbrev pub newSheet : Sheet
+newSheet = record { count = 0; totals = zeros }
+
+-- What the edge from a to b adds to the six totals.
+abbrev pub edgeTotals : Position → Position → Totals
+edgeTotals a b = six (λ t. t a b)
+
+-- The walk with one point more: it adds the edge from the point before it, and the first point adds none.
+unfoldable pub extended : Walk → Position → Walk
+extended w p =
+    cond (eqb (w .count) 0)
+    (record { is_open = w .is_open; count = 1; first = p; last = p; totals = w .totals })
+    (record { is_open = w .is_open; count = w .count + 1; first = w .first; last = p; totals = plus (w .totals) (edgeTotals (w .last) p) })
+
+-- The walk's totals with the closing edge.
+abbrev pub closedTotals : Walk → Totals
+closedTotals w = plus (w .totals) (edgeTotals (w .last) (w .first))
+
+-- The totals that an end adds to the sheet, and answers.
+abbrev pub addedTotals : Walk → Totals
+addedTotals w = closedTotals w
+
+-- The sheet with one outline more.
+abbrev pub sheetWith : Sheet → Totals → Sheet
+sheetWith s t = record { count = s .count + 1; totals = plus (s .totals) t }
+
+-- ---- refusal 28
+
+-- 1/1,024 of each outline bound, n times.
+abbrev pub share : ℕ → Sizes
+share n =
+    record {
+      a2 = n * (outlineBounds .a2 / 1024);
+      x6 = n * (outlineBounds .x6 / 1024);
+      y6 = n * (outlineBounds .y6 / 1024);
+      xx12 = n * (outlineBounds .xx12 / 1024);
+      xy24 = n * (outlineBounds .xy24 / 1024);
+      yy12 = n * (outlineBounds .yy12 / 1024);
+    }
+
+-- An open walk has over 1,024 points, or has points and its first or last is outside the limits, or has a total above its share.
+unfoldable pub unsoundWalk : Walk → Bool
+unsoundWalk w =
+    w .is_open
+    && (ltb 1024 (w .count)
+    || not (eqb (w .count) 0) && (outside (w .first) || outside (w .last))
+    || exceed (share (w .count)) (w .totals))
+
+-- A sheet has a count over 64 or a total outside its limits.
+unfoldable pub unsoundSheet : Sheet → Bool
+unsoundSheet s = ltb 64 (s .count) || exceed totalLimits (s .totals)
+
+-- ---- the four calls: number 0 where accepted, else the refusal's number; and what the call leaves
+
+pub record WalkOutcome : Type 0 where
+  pub number : ℕ
+  pub walk : Walk
+
+pub record EndOutcome : Type 0 where
+  pub number : ℕ
+  pub totals : Totals
+  pub walk : Walk
+  pub sheet : Sheet
+
+-- A refused call leaves walk and sheet as they were, and gives zeros for totals.
+abbrev pub refusedWalk : ℕ → Walk → WalkOutcome
+refusedWalk n w = record { number = n; walk = w }
+
+abbrev pub refusedEnd : ℕ → Walk → Sheet → EndOutcome
+refusedEnd n w s = record { number = n; totals = zeros; walk = w; sheet = s }
+
+-- Order: 28, 22.
+unfoldable pub beginCall : Walk → WalkOutcome
+beginCall w =
+    cond (unsoundWalk w) (refusedWalk 28 w)
+    (cond (w .is_open) (refusedWalk 22 w)
+    (record { number = 0; walk = opened }))
+
+-- Order: 28, 21, 1, 23.
+unfoldable pub pointCall : Walk → Position → WalkOutcome
+pointCall w p =
+    cond (unsoundWalk w) (refusedWalk 28 w)
+    (cond (not (w .is_open)) (refusedWalk 21 w)
+    (cond (outside p) (refusedWalk 1 w)
+    (cond (leb 1024 (w .count)) (refusedWalk 23 w)
+    (record { number = 0; walk = extended w p }))))
+
+-- Order: 28, 21, 24, 25, 26.
+unfoldable pub endCall : Walk → Sheet → EndOutcome
+endCall w s =
+    cond (unsoundWalk w || unsoundSheet s) (refusedEnd 28 w s)
+    (cond (not (w .is_open)) (refusedEnd 21 w s)
+    (cond (ltb (w .count) 3) (refusedEnd 24 w s)
+    (cond (leb 64 (s .count)) (refusedEnd 25 w s)
+    (cond (exceed totalLimits (plus (s .totals) (addedTotals w))) (refusedEnd 26 w s)
+    (record { number = 0; totals = addedTotals w; walk = closed; sheet = sheetWith s (addedTotals w) })))))
+
+-- Order: 28, 21.
+unfoldable pub abandonCall : Walk → WalkOutcome
+abandonCall w =
+    cond (unsoundWalk w) (refusedWalk 28 w)
+    (cond (not (w .is_open)) (refusedWalk 21 w)
+    (record { number = 0; walk = closed }))

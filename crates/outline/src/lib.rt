@@ -1,0 +1,42 @@
+// Plain types that the definitions and every function on outlines share.
+
+// A position in decimetres: x east, y north.
+pub struct Position {
+    pub x: i32,
+    pub y: i32,
+}
+
+// The six totals of an outline, in document 01's order: multiples of the area, the first and the second moments.
+pub struct Totals {
+    pub a2: i64,
+    pub x6: i64,
+    pub y6: i64,
+    pub xx12: i64,
+    pub xy24: i64,
+    pub yy12: i64,
+}
+
+// An affine map: (x, y) goes to (a x + b y + e, g x + h y + f).
+pub struct AffineMap {
+    pub a: i32,
+    pub b: i32,
+    pub g: i32,
+    pub h: i32,
+    pub e: i32,
+    pub f: i32,
+}
+
+// A walk that its caller holds: the open polyline walked so far, marked open or closed.
+pub struct Walk {
+    pub is_open: bool,
+    pub count: u32,
+    pub first: Position,
+    pub last: Position,
+    pub totals: Totals,
+}
+
+// A sheet: how many outlines it has accepted, and the sums of their totals.
+pub struct Sheet {
+    pub count: u32,
+    pub totals: Totals,
+}
