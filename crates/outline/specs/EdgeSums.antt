@@ -6,6 +6,7 @@ use lib.Dec.{ltb}
 use lib.IntN.{ℤ, pos, negℤ, natAbs, _+ℤ_, _-ℤ_, _*ℤ_}
 use Rattle.outline.specs.declared.Position.{Position}
 use Rattle.outline.specs.declared.Totals.{Totals}
+use Rattle.outline.specs.declared.Sizes.{Sizes}
 
 -- ---- the table of edge terms
 
@@ -107,15 +108,6 @@ negated t =
 -- z is greater in size than n.
 unfoldable pub over : ℕ → ℤ → Bool
 over n z = ltb n (natAbs z)
-
--- A size for each of the six totals.
-pub record Sizes : Type 0 where
-  pub a2 : ℕ
-  pub x6 : ℕ
-  pub y6 : ℕ
-  pub xx12 : ℕ
-  pub xy24 : ℕ
-  pub yy12 : ℕ
 
 -- Some total is greater in size than its bound.
 unfoldable pub exceed : Sizes → Totals → Bool

@@ -5,8 +5,9 @@ use mathlib.Core.List.{List, map}
 use lib.IntN.{ℤ, pos, _+ℤ_, _-ℤ_, _*ℤ_}
 use Rattle.outline.specs.declared.Position.{Position}
 use Rattle.outline.specs.declared.Totals.{Totals}
+use Rattle.outline.specs.declared.Sizes.{Sizes}
 use Rattle.outline.specs.declared.AffineMap.{AffineMap}
-use Rattle.outline.specs.EdgeSums.{over, Sizes, exceed, outlineBounds}
+use Rattle.outline.specs.EdgeSums.{over, exceed, outlineBounds}
 use Rattle.outline.specs.ListCall.{Outcome, accepted, refused}
 
 -- u = a×x + b×y + e, v = g×x + h×y + f.

@@ -5,9 +5,10 @@ use lib.Dec.{leb, ltb, eqb}
 use lib.IntN.{pos}
 use Rattle.outline.specs.declared.Position.{Position}
 use Rattle.outline.specs.declared.Totals.{Totals}
+use Rattle.outline.specs.declared.Sizes.{Sizes}
 use Rattle.outline.specs.declared.Walk.{Walk}
 use Rattle.outline.specs.declared.Sheet.{Sheet}
-use Rattle.outline.specs.EdgeSums.{six, plus, zeros, Sizes, exceed, outlineBounds}
+use Rattle.outline.specs.EdgeSums.{six, plus, zeros, exceed, outlineBounds}
 use Rattle.outline.specs.ListCall.{outside}
 use Rattle.outline.specs.MapCall.{totalLimits}
 

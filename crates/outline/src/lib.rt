@@ -16,6 +16,16 @@ pub struct Totals {
     pub yy12: i64,
 }
 
+// A size for each of the six totals: how great it may be, either sign.
+pub struct Sizes {
+    pub a2: u64,
+    pub x6: u64,
+    pub y6: u64,
+    pub xx12: u64,
+    pub xy24: u64,
+    pub yy12: u64,
+}
+
 // An affine map: (x, y) goes to (a x + b y + e, g x + h y + f).
 pub struct AffineMap {
     pub a: i32,

@@ -1,0 +1,62 @@
+// Tests of size that the calls share. Each takes every value of its types.
+ghost use mathlib.Core.Path.{_≡_};
+ghost use Rattle.outline.specs.EdgeSums.{over, exceed, outlineBounds};
+ghost use Rattle.outline.specs.MapCall.{totalLimits};
+use outline::Sizes;
+use outline::Totals;
+
+// Whether z is greater in size than the bound. Two comparisons: the least i64 has no absolute value.
+pub fn size_exceeds(z: i64, bound: u64) -> bool
+    ensures { λ r. ⌜ r ≡ over bound z ⌝ }
+{
+    if 9_223_372_036_854_775_807 < bound {
+        return false;
+    }
+    let b = bound as i64;
+    if z < -b {
+        return true;
+    }
+    b < z
+}
+
+// Whether some total is greater in size than its bound.
+pub fn totals_exceed(t: Totals, bounds: Sizes) -> bool
+    ensures { λ r. ⌜ r ≡ exceed bounds t ⌝ }
+{
+    let a2 = size_exceeds(t.a2, bounds.a2);
+    let x6 = size_exceeds(t.x6, bounds.x6);
+    let y6 = size_exceeds(t.y6, bounds.y6);
+    let xx12 = size_exceeds(t.xx12, bounds.xx12);
+    let xy24 = size_exceeds(t.xy24, bounds.xy24);
+    let yy12 = size_exceeds(t.yy12, bounds.yy12);
+    a2 | x6 | y6 | xx12 | xy24 | yy12
+}
+
+// The outline bounds.
+pub fn outline_bounds() -> Sizes
+    ensures { λ r. ⌜ r ≡ outlineBounds ⌝ }
+{
+    Sizes {
+        a2: 8_192_000_000,
+        x6: 32_768_000_000_000,
+        y6: 32_768_000_000_000,
+        xx12: 98_304_000_000_000_000,
+        xy24: 196_608_000_000_000_000,
+        yy12: 98_304_000_000_000_000,
+    }
+}
+
+// The limits of a sheet's totals, of a mapped total and of totals that a centre is wanted from.
+pub fn total_limits() -> Sizes
+    ensures { λ r. ⌜ r ≡ totalLimits ⌝ }
+{
+    let limit = 1_000_000_000_000_000_000;
+    Sizes {
+        a2: limit,
+        x6: limit,
+        y6: limit,
+        xx12: limit,
+        xy24: limit,
+        yy12: limit,
+    }
+}
