@@ -33,7 +33,7 @@ pub fn totals_exceed(t: Totals, bounds: Sizes) -> bool
 }
 
 // The outline bounds.
-pub fn outline_bounds() -> Sizes
+fn outline_bounds() -> Sizes
     ensures { λ r. ⌜ r ≡ outlineBounds ⌝ }
 {
     Sizes {
@@ -47,7 +47,7 @@ pub fn outline_bounds() -> Sizes
 }
 
 // The limits of a sheet's totals, of a mapped total and of totals that a centre is wanted from.
-pub fn total_limits() -> Sizes
+fn total_limits() -> Sizes
     ensures { λ r. ⌜ r ≡ totalLimits ⌝ }
 {
     let limit = 1_000_000_000_000_000_000;
@@ -59,4 +59,20 @@ pub fn total_limits() -> Sizes
         xy24: limit,
         yy12: limit,
     }
+}
+
+// Whether some total is outside the outline bounds.
+pub fn outside_bounds(t: Totals) -> bool
+    ensures { λ r. ⌜ r ≡ exceed outlineBounds t ⌝ }
+{
+    let bounds = outline_bounds();
+    totals_exceed(t, bounds)
+}
+
+// Whether some total is outside -10^18 to 10^18.
+pub fn outside_limits(t: Totals) -> bool
+    ensures { λ r. ⌜ r ≡ exceed totalLimits t ⌝ }
+{
+    let limits = total_limits();
+    totals_exceed(t, limits)
 }

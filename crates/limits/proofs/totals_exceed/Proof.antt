@@ -1,16 +1,9 @@
 -- `totals_exceed`: the six tests of the definition, each on the field as it is read back.
 use borrow.Author.Needs.{needs}
-use mathlib.Core.Path.{_≡_, _∙_, ap}
-use mathlib.Core.Bool.{Bool}
-use Prim.Native.Nat.{ℕ}
-use lib.IntN.{ℤ}
+use Rattle.integers.proofs.Flags.{of-field}
 use Rattle.outline.specs.EdgeSums.{over, exceed}
 use Rattle.limits.proofs.totals_exceed.Statement.{statement}
 use Rattle.limits.proofs.totals_exceed.Tie as tie
-
--- the test is of z′, a field as it is read back
-of-field : (bound : ℕ) (z : ℤ) {z′ : ℤ} {flag : Bool} → flag ≡ over bound z′ → z′ ≡ z → flag ≡ over bound z
-of-field bound z e back = e ∙ ap (over bound) back
 
 size-exceeds-requires : tie.Need-size-exceeds-requires
 size-exceeds-requires c κs = search needs
@@ -35,12 +28,12 @@ unfolding exceed
 returns c =
     let s = c .before .before .before .before .before .before .before .before .before .before .before .before in
     rw (
-      of-field (s .args .bounds .a2) (s .args .t .a2) (c .before .before .before .before .before .before .before .before .before .before .size-exceeds .ensures) (search needs),
-      of-field (s .args .bounds .x6) (s .args .t .x6) (c .before .before .before .before .before .before .before .before .size-exceeds2 .ensures) (search needs),
-      of-field (s .args .bounds .y6) (s .args .t .y6) (c .before .before .before .before .before .before .size-exceeds3 .ensures) (search needs),
-      of-field (s .args .bounds .xx12) (s .args .t .xx12) (c .before .before .before .before .size-exceeds4 .ensures) (search needs),
-      of-field (s .args .bounds .xy24) (s .args .t .xy24) (c .before .before .size-exceeds5 .ensures) (search needs),
-      of-field (s .args .bounds .yy12) (s .args .t .yy12) (c .size-exceeds6 .ensures) (search needs),
+      of-field (over (s .args .bounds .a2)) (s .args .t .a2) (c .before .before .before .before .before .before .before .before .before .before .size-exceeds .ensures) (search needs),
+      of-field (over (s .args .bounds .x6)) (s .args .t .x6) (c .before .before .before .before .before .before .before .before .size-exceeds2 .ensures) (search needs),
+      of-field (over (s .args .bounds .y6)) (s .args .t .y6) (c .before .before .before .before .before .before .size-exceeds3 .ensures) (search needs),
+      of-field (over (s .args .bounds .xx12)) (s .args .t .xx12) (c .before .before .before .before .size-exceeds4 .ensures) (search needs),
+      of-field (over (s .args .bounds .xy24)) (s .args .t .xy24) (c .before .before .size-exceeds5 .ensures) (search needs),
+      of-field (over (s .args .bounds .yy12)) (s .args .t .yy12) (c .size-exceeds6 .ensures) (search needs),
     )
 
 pub totals-exceed-spec : {M : Type 1} → statement M

@@ -1,0 +1,5 @@
+pub mod CentreLaw
+pub mod ReadingLaw
+pub mod WorkedCentres
+pub mod CodeTests
+pub mod Limits

@@ -1,0 +1,76 @@
+-- Document 01, "Centre" and the refusals 11 and 27: the centre of outline totals and of cell sums.
+use Prim.Native.Nat.{ℕ, zero, suc, _*_, _^_}
+use mathlib.Core.Bool.{Bool, _&&_, _||_, cond}
+use lib.Dec.{eqb}
+use lib.IntN.{ℤ, pos, negℤ, natAbs, _+ℤ_, _-ℤ_, _*ℤ_}
+use lib.Signed.{leZ, ltZ}
+use Rattle.outline.specs.declared.Totals.{Totals}
+use Rattle.outline.specs.EdgeSums.{exceed}
+use Rattle.outline.specs.MapCall.{totalLimits}
+use Rattle.centroid.specs.declared.CellSums.{CellSums}
+
+-- ---- the quotient of N and D, rounded to a whole number
+
+-- k is the centre of N and D: 2×k×D − D ≤ 2×N < 2×k×D + D, so that a half goes up.
+unfoldable pub isCentre : ℤ → ℤ → ℤ → Bool
+isCentre n d k = leZ (pos 2 *ℤ k *ℤ d -ℤ d) (pos 2 *ℤ n) && ltZ (pos 2 *ℤ n) (pos 2 *ℤ k *ℤ d +ℤ d)
+
+-- The first centre of N and D among `count` whole numbers from k on, and 0 where there is none.
+unfoldable pub firstCentre : ℤ → ℤ → ℤ → ℕ → ℤ
+firstCentre n d k zero = pos 0
+firstCentre n d k (suc count) = cond (isCentre n d k) k (firstCentre n d (k +ℤ pos 1) count)
+
+-- The centre of N and D, looked for from −|N| to |N|: D is at least 1, so the quotient is no greater in size than N.
+-- For every such D it is the one whole number that `isCentre` holds of (proofs/CentreLaw).
+unfoldable pub centre : ℤ → ℤ → ℤ
+centre n d = firstCentre n d (negℤ (pos (natAbs n))) (suc (2 * natAbs n))
+
+-- ---- outcomes
+
+-- What a call for a centre answers: number 0 and the centre where there is one, else the refusal's number and zeros.
+pub record CentroidOutcome : Type 0 where
+  pub number : ℕ
+  pub x : ℤ
+  pub y : ℤ
+
+abbrev pub refused : ℕ → CentroidOutcome
+refused n = record { number = n; x = pos 0; y = pos 0 }
+
+-- The centre's x and y, each from its own N, over one D. Its unit is that of the coordinates: decimetres or, for a region, cells.
+abbrev pub centred : ℤ → ℤ → ℤ → CentroidOutcome
+centred nx ny d = record { number = 0; x = centre nx d; y = centre ny d }
+
+-- Outline or sheet: N is X6 or Y6, D is 3×A2, and all are negated if A2 is negative.
+unfoldable pub outlineCentre : Totals → CentroidOutcome
+outlineCentre t =
+    cond (ltZ (t .a2) (pos 0))
+    (centred (negℤ (t .x6)) (negℤ (t .y6)) (negℤ (pos 3 *ℤ t .a2)))
+    (centred (t .x6) (t .y6) (pos 3 *ℤ t .a2))
+
+-- Refusal 11: a total is greater in size than 10^18. Refusal 27: A2 is 0. Order: 11, 27.
+unfoldable pub outlineCentroid : Totals → CentroidOutcome
+outlineCentroid t =
+    cond (exceed totalLimits t) (refused 11)
+    (cond (eqb (natAbs (t .a2)) 0) (refused 27)
+    (outlineCentre t))
+
+-- A cell sum is negative or over its limit.
+unfoldable pub outsideLimit : ℤ → ℤ → Bool
+outsideLimit limit z = ltZ z (pos 0) || ltZ limit z
+
+-- Refusal 11 for cell sums: A is over 1,048,576, another sum is over 10^18, or any of the six is negative.
+unfoldable pub sumsOutside : CellSums → Bool
+sumsOutside s =
+    outsideLimit (pos 1_048_576) (s .count)
+    || outsideLimit (pos (10 ^ 18)) (s .x)
+    || outsideLimit (pos (10 ^ 18)) (s .y)
+    || outsideLimit (pos (10 ^ 18)) (s .xx)
+    || outsideLimit (pos (10 ^ 18)) (s .xy)
+    || outsideLimit (pos (10 ^ 18)) (s .yy)
+
+-- Cells: N is the sum of x or of y, D is A. Refusal 27: A is 0. Order: 11, 27.
+unfoldable pub regionCentroid : CellSums → CentroidOutcome
+regionCentroid s =
+    cond (sumsOutside s) (refused 11)
+    (cond (eqb (natAbs (s .count)) 0) (refused 27)
+    (centred (s .x) (s .y) (s .count)))

@@ -1,0 +1,2 @@
+pub mod Centroid
+pub mod Answers

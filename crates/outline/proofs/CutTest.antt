@@ -1,0 +1,48 @@
+-- What is known of a cut that can be made: its piece exists, its positions lie in it and at least two apart round it.
+use mathlib.Core.Path.{_≡_, refl}
+use mathlib.Core.Bool.{Bool, true, false, not, _&&_}
+use mathlib.Core.List.{List, []}
+use Prim.Native.Nat.{ℕ, suc, _+_, _-_, _<_, _≤_}
+use native.Mathlib.Omega.{arith}
+use lib.Dec.{ltb, eqb}
+use lib.ListN.{length, getD}
+use borrow.Author.Tests.{ltb-true, eqb-false, not-true}
+use Rattle.outline.specs.Pieces.{Piece, Cut, lower, higher, neighbours, canCut}
+use Rattle.integers.proofs.Flags.{or-left, or-right, and-left, and-right}
+
+pub record Made (c : Cut) (p : Piece) : Type 0 where
+  pub apart : suc (lower c) < higher c
+  pub inside : higher c < length p
+  pub rest : 3 ≤ (length p - higher c) + suc (lower c)
+
+-- Not neighbours over the closing edge.
+enough-left : (n l h : ℕ) → suc l < h → h < n → (eqb l 0 && eqb (suc h) n) ≡ false → 3 ≤ (n - h) + suc l
+enough-left n l h g k e = go (eqb l 0) refl e
+  where
+    go : (b : Bool) → eqb l 0 ≡ b → (b && eqb (suc h) n) ≡ false → 3 ≤ (n - h) + suc l
+    go true f e = let ne = eqb-false (suc h) n e in omega arith
+    go false f e = let ne = eqb-false l 0 f in omega arith
+
+pub made : (pieces : List Piece) (c : Cut) → canCut pieces c ≡ true → (c .piece < length pieces) × Made c (getD pieces (c .piece) [])
+unfolding canCut neighbours
+made pieces c e =
+    let n = length (getD pieces (c .piece) []) in
+    let exists = ltb (c .piece) (length pieces) in
+    let one = ltb (c .one) n in
+    let other = ltb (c .other) n in
+    let distinct = not (eqb (c .one) (c .other)) in
+    let e4 = and-left (exists && one && other && distinct) (not (neighbours n c)) e in
+    let e3 = and-left (exists && one && other) distinct e4 in
+    let e2 = and-left (exists && one) other e3 in
+    let h-one : c .one < n = ltb-true (c .one) n (and-right exists one e2) in
+    let h-other : c .other < n = ltb-true (c .other) n (and-right (exists && one) other e3) in
+    let h-distinct = eqb-false (c .one) (c .other) (not-true (eqb (c .one) (c .other)) (and-right (exists && one && other) distinct e4)) in
+    let beside = eqb (suc (lower c)) (higher c) in
+    let closing = eqb (lower c) 0 && eqb (suc (higher c)) n in
+    let apart-test = not-true (neighbours n c) (and-right (exists && one && other && distinct) (not (neighbours n c)) e) in
+    let h-beside = eqb-false (suc (lower c)) (higher c) (or-left beside closing apart-test) in
+    let h-apart : suc (lower c) < higher c = omega arith in
+    let h-inside : higher c < n = omega arith in (
+      ltb-true (c .piece) (length pieces) (and-left exists one e2),
+      record { apart = h-apart; inside = h-inside; rest = enough-left n (lower c) (higher c) h-apart h-inside (or-right beside closing apart-test) },
+    )

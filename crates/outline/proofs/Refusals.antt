@@ -1,0 +1,66 @@
+-- Demand 1: a refused call gives zeros for totals and changes neither walk nor sheet. And 28 comes only for a walk or a sheet that it refuses.
+use mathlib.Core.Path.{_≡_, refl}
+use mathlib.Core.Bool.{Bool, true, false, cond}
+use mathlib.Core.List.{List}
+use mathlib.Core.Logic.{_≢_}
+use Prim.Native.Nat.{ℕ}
+use native.Mathlib.Omega.{arith}
+use lib.IntN.{ℤ}
+use Rattle.outline.specs.declared.Totals.{Totals}
+use Rattle.outline.specs.declared.AffineMap.{AffineMap}
+use Rattle.outline.specs.declared.Walk.{Walk}
+use Rattle.outline.specs.declared.Sheet.{Sheet}
+use Rattle.outline.specs.EdgeSums.{outlineTotals, zeros, exceed, outlineBounds}
+use Rattle.outline.specs.ListCall.{accepted, refused, points, anyOutside, misshapen, listCall}
+use Rattle.outline.specs.MapCall.{disallowed, mapped, totalLimits, mapCall}
+use Rattle.outline.specs.WalkCalls.{unsoundWalk, EndOutcome, endCall}
+use Rattle.outline.specs.CallLists.{Call, numberOf, walkAfter, unsoundSheetIn}
+use Rattle.integers.proofs.Flags.{neither}
+use Rattle.outline.proofs.CallCases as Case
+
+-- ---- the calls that answer totals alone
+
+pub list-zeros : (zs : List ℤ) → listCall zs .number ≢ 0 → listCall zs .totals ≡ zeros
+unfolding listCall
+list-zeros zs = go (misshapen zs) (anyOutside (points zs))
+  where
+    go : (a b : Bool) → (let r = cond a (refused 2) (cond b (refused 1) (accepted (outlineTotals (points zs)))) in r .number ≢ 0 → r .totals ≡ zeros)
+    go true b n = refl
+    go false true n = refl
+    go false false n = absurd (n refl)
+
+pub map-zeros : (m : AffineMap) (t : Totals) → mapCall m t .number ≢ 0 → mapCall m t .totals ≡ zeros
+unfolding mapCall
+map-zeros m t = go (disallowed m) (exceed outlineBounds t) (exceed totalLimits (mapped m t))
+  where
+    go : (a b c : Bool) → (let r = cond a (refused 3) (cond b (refused 4) (cond c (refused 5) (accepted (mapped m t)))) in r .number ≢ 0 → r .totals ≡ zeros)
+    go true b c n = refl
+    go false true c n = refl
+    go false false true n = refl
+    go false false false n = absurd (n refl)
+
+-- ---- the calls on a walk
+
+-- A refused call of any kind leaves the walk as it was.
+pub walk-unchanged : (w : Walk) (c : Call) → numberOf w c ≢ 0 → walkAfter w c ≡ w
+walk-unchanged w c = go (numberOf w c) (walkAfter w c) (Case.call-case w c)
+  where
+    go : (n : ℕ) (left : Walk) → Case.CallCase w c n left → n ≢ 0 → left ≡ w
+    go n left (Case.refused k r) h = refl
+    go n left (Case.accepted k) h = absurd (h refl)
+
+-- A refused end gives zeros and leaves the sheet as it was.
+pub end-unchanged : (w : Walk) (s : Sheet) → endCall w s .number ≢ 0 → (endCall w s .totals ≡ zeros) × (endCall w s .sheet ≡ s)
+end-unchanged w s = go (endCall w s) (Case.end-case w s)
+  where
+    go : (e : EndOutcome) → Case.EndCase w s e → e .number ≢ 0 → (e .totals ≡ zeros) × (e .sheet ≡ s)
+    go e (Case.refused k r) h = (refl, refl)
+    go e (Case.accepted k) h = absurd (h refl)
+
+-- A call with a walk and a sheet that 28 does not refuse is not answered with 28.
+pub not-28 : (w : Walk) → unsoundWalk w ≡ false → (c : Call) → unsoundSheetIn c ≡ false → numberOf w c ≢ 28
+not-28 w e c f = go (numberOf w c) (walkAfter w c) (Case.call-case w c)
+  where
+    go : (n : ℕ) (left : Walk) → Case.CallCase w c n left → n ≢ 28
+    go n left (Case.refused k r) = r .only-28 (neither e f)
+    go n left (Case.accepted k) = λ h. omega arith

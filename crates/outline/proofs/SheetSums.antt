@@ -1,0 +1,61 @@
+-- Demand 2 for sheets: a sheet holds the outlines that it has accepted since it was new, and nothing else; and 28 never refuses it.
+use mathlib.Core.Path.{_≡_, refl, sym, _∙_}
+use mathlib.Core.Bool.{false, cond}
+use mathlib.Core.List.{List, [], _∷_}
+use Prim.Native.Nat.{_+_}
+use native.Mathlib.Omega.{arith}
+use lib.Dec.{eqb}
+use lib.ListN.{length}
+use borrow.Author.Tests.{le-ltb, ne-eqb}
+use Rattle.outline.specs.declared.Totals.{Totals}
+use Rattle.outline.specs.declared.Walk.{Walk}
+use Rattle.outline.specs.declared.Sheet.{Sheet}
+use Rattle.outline.specs.EdgeSums.{plus, over, exceed}
+use Rattle.outline.specs.Pieces.{sumOf}
+use Rattle.outline.specs.WalkCalls.{newSheet, addedTotals, sheetWith, unsoundSheet, EndOutcome, endCall}
+use Rattle.outline.specs.CallLists.{sheetAfter, addedBy}
+use Rattle.integers.proofs.Flags.{neither}
+use Rattle.outline.proofs.CallCases as Case
+use Rattle.outline.proofs.TotalsLaws.{plus-assoc, plus-zeros, zeros-plus}
+
+-- ---- a list of ends
+
+-- What the sheet s has become, ts being the totals that the accepted ends added.
+record Grown (s : Sheet) (ts : List Totals) (left : Sheet) : Type 0 where
+  count : left .count ≡ s .count + length ts
+  totals : left .totals ≡ plus (s .totals) (sumOf ts)
+  sound : unsoundSheet left ≡ false
+
+one-more : (s : Sheet) (t : Totals) (ts : List Totals) (left : Sheet) → Grown (sheetWith s t) ts left → Grown s (t ∷ ts) left
+unfolding sumOf
+one-more s t ts left g = record { count = omega (arith, g .count); totals = g .totals ∙ plus-assoc (s .totals) t (sumOf ts); sound = g .sound }
+
+grown : (ws : List Walk) (s : Sheet) → unsoundSheet s ≡ false → Grown s (addedBy s ws) (sheetAfter s ws)
+unfolding sheetAfter addedBy sumOf unsoundSheet
+grown [] s m = record { count = omega arith; totals = sym (plus-zeros (s .totals)); sound = m }
+grown (w ∷ ws) s m = go (λ r k. grown ws r k) (endCall w s) (Case.end-case w s)
+  where
+    go : ((r : Sheet) → unsoundSheet r ≡ false → Grown r (addedBy r ws) (sheetAfter r ws)) → (e : EndOutcome) → Case.EndCase w s e → Grown s (cond (eqb (e .number) 0) (e .totals ∷ addedBy (e .sheet) ws) (addedBy (e .sheet) ws)) (sheetAfter (e .sheet) ws)
+    go rest e (Case.refused n k) = rw (ne-eqb n 0 (k .not-0)) (rest s m)
+    go rest e (Case.accepted k) =
+        let added = sheetWith s (addedTotals w) in
+        let sound = neither (le-ltb 64 (s .count + 1) (omega (arith, k .room))) (k .within) in
+        one-more s (addedTotals w) (addedBy added ws) (sheetAfter added ws) (rest added sound)
+
+-- ---- the theorem
+
+-- What is claimed of a sheet, ts being the totals that the accepted ends answered and added.
+pub record SheetSums (s : Sheet) (ts : List Totals) : Type 0 where
+  -- The count is the number of accepted ends,
+  pub count : s .count ≡ length ts
+  -- the totals are the sums of the totals added, each of the six by itself,
+  pub totals : s .totals ≡ sumOf ts
+  -- and 28 takes the sheet.
+  pub sound : unsoundSheet s ≡ false
+
+-- After every list of ends from a new sheet, each with whichever walk.
+pub sheet-sums : (ws : List Walk) → SheetSums (sheetAfter newSheet ws) (addedBy newSheet ws)
+unfolding unsoundSheet exceed over
+sheet-sums ws =
+    let g = grown ws newSheet refl in
+    record { count = omega (arith, g .count); totals = g .totals ∙ zeros-plus (sumOf (addedBy newSheet ws)); sound = g .sound }

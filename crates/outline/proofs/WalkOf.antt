@@ -1,0 +1,69 @@
+-- The walk that has taken given points: one point more, its closing edge, and why 28 takes it.
+use mathlib.Core.Path.{_≡_, refl, sym}
+use mathlib.Core.Bool.{true, false, not, _&&_, _||_}
+use mathlib.Core.List.{List, [], _∷_, _++_}
+use Prim.Native.Nat.{suc, _+_, _≤_}
+use native.Mathlib.Omega.{arith}
+use lib.Dec.{eqb, eqb·suc-zero}
+use lib.ListN.{length, getD, length-append}
+use lib.Seq.{getD-at}
+use borrow.Author.Tests.{le-ltb}
+use Rattle.outline.specs.declared.Position.{Position}
+use Rattle.outline.specs.declared.Walk.{Walk}
+use Rattle.outline.specs.EdgeSums.{plus, openEdges, edges, sumOver, totalsOver, outlineTotals}
+use Rattle.outline.specs.ListCall.{outside}
+use Rattle.outline.specs.WalkCalls.{origin, edgeTotals, extended, closedTotals, share, unsoundWalk}
+use Rattle.integers.proofs.Flags.{neither}
+use Rattle.outline.proofs.Every.{All, all-at}
+use Rattle.outline.proofs.IndexLaws.{totals-snoc}
+use Rattle.outline.proofs.Limits.{Inside, not-outside, fit-exceed, open-fit}
+
+-- ---- the walk that has taken the points ps
+
+abbrev firstOf : List Position → Position
+firstOf ps = getD ps 0 origin
+
+abbrev lastOf : List Position → Position
+lastOf [] = origin
+lastOf (a ∷ ps) = getD (a ∷ ps) (length ps) origin
+
+abbrev pub walkOf : List Position → Walk
+walkOf ps = record { is_open = true; count = length ps; first = firstOf ps; last = lastOf ps; totals = totalsOver (openEdges ps) }
+
+-- The first point adds no edge.
+pub first-point : (w : Walk) (p : Position) → w .count ≡ 0 → extended w p .totals ≡ w .totals
+unfolding extended
+first-point w p e = rw e
+
+pub extended-is : (ps : List Position) (p : Position) → extended (walkOf ps) p ≡ walkOf (ps ++ p ∷ [])
+unfolding extended openEdges sumOver
+extended-is [] p = refl
+extended-is (a ∷ ps) p = rw (eqb·suc-zero (length ps)) (λ i. record { is_open = true; count = n i; first = a; last = l i; totals = s i })
+  where
+    n : suc (length ps) + 1 ≡ suc (length (ps ++ p ∷ []))
+    n = omega (arith, length-append ps (p ∷ []))
+
+    l : p ≡ lastOf (a ∷ ps ++ p ∷ [])
+    l = sym (getD-at (a ∷ ps) p [] origin (length (ps ++ p ∷ [])) (omega (arith, length-append ps (p ∷ []))))
+
+    s : plus (totalsOver (openEdges (a ∷ ps))) (edgeTotals (lastOf (a ∷ ps)) p) ≡ totalsOver (openEdges (a ∷ ps ++ p ∷ []))
+    s = sym (totals-snoc a ps p origin)
+
+pub closed-is : (ps : List Position) → 3 ≤ length ps → closedTotals (walkOf ps) ≡ outlineTotals ps
+unfolding edges
+closed-is [] h = absurd (omega arith)
+closed-is (a ∷ ps) h = sym (totals-snoc a ps a origin)
+
+-- ---- 28 takes it, and any closed walk
+
+ends-inside : (ps : List Position) → All Inside ps → (not (eqb (length ps) 0) && (outside (firstOf ps) || outside (lastOf ps))) ≡ false
+ends-inside [] h = refl
+ends-inside (a ∷ ps) h = rw (eqb·suc-zero (length ps)) (neither (not-outside a (h .0)) (not-outside (lastOf (a ∷ ps)) (all-at Inside (a ∷ ps) (length ps) origin h (omega arith))))
+
+pub sound-walk : (ps : List Position) → length ps ≤ 1024 → All Inside ps → unsoundWalk (walkOf ps) ≡ false
+unfolding unsoundWalk
+sound-walk ps n h = neither (neither (le-ltb 1024 (length ps) n) (ends-inside ps h)) (fit-exceed (share (length ps)) (totalsOver (openEdges ps)) (open-fit ps h))
+
+pub sound-closed : (w : Walk) → w .is_open ≡ false → unsoundWalk w ≡ false
+unfolding unsoundWalk
+sound-closed w h = rw h

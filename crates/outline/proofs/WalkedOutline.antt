@@ -1,0 +1,120 @@
+-- Demands 2 and 3 for walked outlines: after any list of calls from a walk marked closed, the walk is closed or is the walk of the points taken since the
+-- last accepted begin. Each call keeps this, and the claims follow from it.
+use mathlib.Core.Path.{_≡_, refl, sym, _∙_, ap, subst}
+use mathlib.Core.Bool.{true, false, cond, true≢false}
+use mathlib.Core.List.{List, [], _∷_, _++_, map}
+use mathlib.Core.Logic.{_≢_}
+use Prim.Native.Nat.{ℕ, _≤_, _<_, zero-le}
+use native.Mathlib.Omega.{arith}
+use lib.Dec.{eqb}
+use lib.ListN.{length, length-append}
+use borrow.Author.Tests.{ne-eqb}
+use Rattle.outline.specs.declared.Position.{Position}
+use Rattle.outline.specs.declared.AffineMap.{AffineMap}
+use Rattle.outline.specs.declared.Walk.{Walk}
+use Rattle.outline.specs.declared.Sheet.{Sheet}
+use Rattle.outline.specs.EdgeSums.{openEdges, sumOver, outlineBounds, exceed}
+use Rattle.outline.specs.ListCall.{accepted, points, numbers, outside, anyOutside, listCall}
+use Rattle.outline.specs.MapCall.{moved, disallowed}
+use Rattle.outline.specs.Pieces.{Cut, piecesOf, Direction, placed}
+use Rattle.outline.specs.WalkCalls.{EndOutcome, closedTotals, extended, unsoundWalk, endCall}
+use Rattle.outline.specs.CallLists.{Call, numberOf, walkAfter, unsoundSheetIn, pointsWith, Trace, next, after, from}
+use Rattle.outline.proofs.Every.{All, all-append}
+use Rattle.outline.proofs.IndexLaws.{points-numbers}
+use Rattle.outline.proofs.Limits.{Inside, outside-not, accepts-points, accepted-within}
+use Rattle.outline.proofs.PiecesAddUp.{PiecesAddUp, pieces-add-up}
+use Rattle.outline.proofs.CallCases as Case
+use Rattle.outline.proofs.CallCases.{Taken, begun, extends, ends, abandoned}
+use Rattle.outline.proofs.Refusals.{not-28}
+use Rattle.outline.proofs.WalkOf.{extended-is, walkOf, closed-is, sound-walk, sound-closed}
+
+-- ---- what every list of calls keeps
+
+abbrev pub traceOf : List Position → Trace
+traceOf ps = record { walk = walkOf ps; points = ps }
+
+-- The walk is closed, or it has taken the trace's points.
+data Kept : Trace → Type 0 where
+  not-open : {r : Trace} → r .walk .is_open ≡ false → Kept r
+  walking : (ps : List Position) → length ps ≤ 1024 → All Inside ps → Kept (traceOf ps)
+
+-- A point more.
+point-keeps : {r : Trace} → Kept r → (p : Position) → r .walk .is_open ≡ true → outside p ≡ false → r .walk .count < 1024 → Kept (record { walk = extended (r .walk) p; points = r .points ++ p ∷ [] })
+point-keeps (not-open h) p e f m = absurd (true≢false (sym e ∙ h))
+point-keeps (walking ps n h) p e f m = subst (λ w. Kept (record { walk = w; points = ps ++ p ∷ [] })) (sym (extended-is ps p)) (walking (ps ++ p ∷ []) (omega (arith, length-append ps (p ∷ []))) (all-append Inside ps (p ∷ []) h (outside-not p f, tt)))
+
+-- One clause for each call that is accepted.
+taken-keeps : {r : Trace} → Kept r → {c : Call} {left : Walk} → Taken (r .walk) c left → Kept (record { walk = left; points = pointsWith (r .points) c })
+unfolding pointsWith openEdges sumOver
+taken-keeps k (begun e) = walking [] zero-le tt
+taken-keeps k (extends p e f m) = point-keeps k p e f m
+taken-keeps k (ends s e) = not-open refl
+taken-keeps k (abandoned e) = not-open refl
+
+-- A refused call leaves the trace as it was.
+call-keeps : (c : Call) {r : Trace} → Kept r → Kept (next r c)
+unfolding next
+call-keeps c {r} k = go (numberOf (r .walk) c) (walkAfter (r .walk) c) (Case.call-case (r .walk) c)
+  where
+    go : (n : ℕ) (left : Walk) → Case.CallCase (r .walk) c n left → Kept (record { walk = left; points = cond (eqb n 0) (pointsWith (r .points) c) (r .points) })
+    go n left (Case.refused m e) = rw (ne-eqb m 0 (e .not-0)) k
+    go n left (Case.accepted t) = taken-keeps k t
+
+kept-after : (calls : List Call) {r : Trace} → Kept r → Kept (after r calls)
+unfolding after
+kept-after [] k = k
+kept-after (c ∷ calls) k = kept-after calls (call-keeps c k)
+
+-- ---- what the claims need
+
+kept-sound : {r : Trace} → Kept r → unsoundWalk (r .walk) ≡ false
+kept-sound {r} (not-open h) = sound-closed (r .walk) h
+kept-sound (walking ps n h) = sound-walk ps n h
+
+kept-count : {r : Trace} → Kept r → r .walk .is_open ≡ true → r .walk .count ≡ length (r .points)
+kept-count (not-open h) e = absurd (true≢false (sym e ∙ h))
+kept-count (walking ps n h) e = refl
+
+closed-outline : {r : Trace} → Kept r → r .walk .is_open ≡ true → 3 ≤ r .walk .count → listCall (numbers (r .points)) ≡ accepted (closedTotals (r .walk))
+closed-outline (not-open h) e m = absurd (true≢false (sym e ∙ h))
+closed-outline (walking ps n h) e m = accepts-points ps (record { enough = m; few = n; inside = h }) ∙ ap accepted (sym (closed-is ps m))
+
+accepted-end : {r : Trace} → Kept r → (s : Sheet) → endCall (r .walk) s .number ≡ 0 → listCall (numbers (r .points)) ≡ accepted (endCall (r .walk) s .totals)
+accepted-end {r} k s = go (endCall (r .walk) s) (Case.end-case (r .walk) s)
+  where
+    go : (e : EndOutcome) → Case.EndCase (r .walk) s e → e .number ≡ 0 → listCall (numbers (r .points)) ≡ accepted (e .totals)
+    go e (Case.refused n h) z = absurd (h .not-0 z)
+    go e (Case.accepted h) z = closed-outline k (h .is-open) (h .enough)
+
+-- ---- the theorem
+
+-- What is claimed of a walk, and of the points of the accepted point calls since the last accepted begin.
+pub record WalkedOutline (r : Trace) : Type 0 where
+  -- 28 takes the walk,
+  pub sound : unsoundWalk (r .walk) ≡ false
+  -- so no call on it answers 28, but an end with a sheet that 28 refuses.
+  pub never-28 : (c : Call) → unsoundSheetIn c ≡ false → numberOf (r .walk) c ≢ 28
+  -- While the walk is open, it counts the points.
+  pub count : r .walk .is_open ≡ true → r .walk .count ≡ length (r .points)
+  -- An accepted end answers what the list call answers for the points.
+  pub same : (s : Sheet) → endCall (r .walk) s .number ≡ 0 → listCall (numbers (r .points)) ≡ accepted (endCall (r .walk) s .totals)
+
+-- After every list of begin, point, end and abandon calls, refused ones included, from any walk marked closed, each given the walk that the last one
+-- left and whichever sheet.
+pub walked-outline : (w : Walk) → w .is_open ≡ false → (calls : List Call) → WalkedOutline (after (from w) calls)
+walked-outline w h calls =
+    let k = kept-after calls (not-open h) in
+    record { sound = kept-sound k; never-28 = not-28 (after (from w) calls .walk) (kept-sound k); count = kept-count k; same = accepted-end k }
+
+module _ (w : Walk) (h : w .is_open ≡ false) (calls : List Call) (s : Sheet) where
+  -- The totals of an accepted end are within the outline bounds,
+  pub walked-within : (let r = after (from w) calls in endCall (r .walk) s .number ≡ 0 → exceed outlineBounds (endCall (r .walk) s .totals) ≡ false)
+  walked-within e = accepted-within (numbers (after (from w) calls .points)) (endCall (after (from w) calls .walk) s .totals) (walked-outline w h calls .same s e)
+
+  -- and demand 3 holds of them and of the points, whole.
+  pub walked-pieces : (let r = after (from w) calls in endCall (r .walk) s .number ≡ 0 → (cuts : List Cut) (start : ℕ → ℕ) (d : Direction) (m : AffineMap) → disallowed m ≡ false → anyOutside (moved m (r .points)) ≡ false → PiecesAddUp m d (endCall (r .walk) s .totals) (map (moved m) (placed d start (piecesOf (r .points) cuts))))
+  walked-pieces e cuts start d m allowed bounds =
+      let r = after (from w) calls in
+      let q = points-numbers (r .points) in
+      subst (λ ps. PiecesAddUp m d (endCall (r .walk) s .totals) (map (moved m) (placed d start (piecesOf ps cuts)))) q
+      (pieces-add-up (numbers (r .points)) (endCall (r .walk) s .totals) (walked-outline w h calls .same s e) cuts start d m allowed (ap (λ ps. anyOutside (moved m ps)) q ∙ bounds))
