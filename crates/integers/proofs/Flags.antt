@@ -22,6 +22,10 @@ pub and-right : (a b : Bool) → (a && b) ≡ true → b ≡ true
 and-right true b e = e
 and-right false b e = absurd (false≢true e)
 
+-- Six tests, each the same as another.
+pub any-of-six : {a b c d e f a′ b′ c′ d′ e′ f′ : Bool} → a ≡ a′ → b ≡ b′ → c ≡ c′ → d ≡ d′ → e ≡ e′ → f ≡ f′ → (a || b || c || d || e || f) ≡ (a′ || b′ || c′ || d′ || e′ || f′)
+any-of-six p q r s t u i = p i || q i || r i || s i || t i || u i
+
 -- None of the tests of a chain holds.
 pub none-of-six : (a b c d e f : Bool) → (a || b || c || d || e || f) ≡ false → (a ≡ false) × (b ≡ false) × (c ≡ false) × (d ≡ false) × (e ≡ false) × (f ≡ false)
 none-of-six true b c d e f h = absurd (true≢false h)

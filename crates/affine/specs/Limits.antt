@@ -1,0 +1,14 @@
+-- The bounds of a map that the private functions rely on, once 3 has been excluded.
+use Prim.Native.Nat.{_≤_}
+use lib.IntN.{ℤ, natAbs}
+use Rattle.outline.specs.declared.AffineMap.{AffineMap}
+
+-- The two coefficients and the shift of one coordinate are within the limits of 3.
+pub record RowWithin (a b e : ℤ) : Type 0 where
+  pub first : natAbs a ≤ 2
+  pub second : natAbs b ≤ 2
+  pub shift : natAbs e ≤ 2000
+
+pub record MapWithin (m : AffineMap) : Type 0 where
+  pub u : RowWithin (m .a) (m .b) (m .e)
+  pub v : RowWithin (m .g) (m .h) (m .f)

@@ -1,0 +1,152 @@
+// The map call on six totals: document 01, "Maps", with refusals 3, 4 and 5.
+ghost use mathlib.Core.Path.{_≡_};
+ghost use Prim.Native.Nat.{_≤_, _^_};
+ghost use lib.IntN.{natAbs, _*ℤ_};
+ghost use Rattle.outline.specs.EdgeSums.{over, exceed, outlineBounds};
+ghost use Rattle.outline.specs.MapCall.{disallowed, determinant, totalLimits, mapCall};
+ghost use Rattle.affine.specs.Answer.{reading};
+ghost use Rattle.affine.specs.Brackets.{firstMoment, secondMoment, mixedMoment, brackets, scaled};
+ghost use Rattle.outline.proofs.Limits.{Fit};
+ghost use Rattle.affine.specs.Limits.{RowWithin, MapWithin};
+use limits::size_exceeds;
+
+// The mapped totals; or refusal 3, 4 or 5, in this order.
+pub enum MapAnswer {
+    Mapped(outline::Totals),
+    MapOutsideLimits,
+    TotalsOutsideBounds,
+    ResultOutsideLimits,
+}
+
+// The limit of a mapped total, by size.
+const TOTAL_LIMIT: u64 = 1_000_000_000_000_000_000;
+
+// Refusal 3. All six tests are made and joined by `|`, so the code has one way through and no branch.
+fn map_outside_limits(m: outline::AffineMap) -> bool
+    ensures { λ r. ⌜ r ≡ disallowed m ⌝ }
+{
+    size_exceeds(m.a as i64, 2)
+        | size_exceeds(m.b as i64, 2)
+        | size_exceeds(m.g as i64, 2)
+        | size_exceeds(m.h as i64, 2)
+        | size_exceeds(m.e as i64, 2000)
+        | size_exceeds(m.f as i64, 2000)
+}
+
+fn determinant(m: outline::AffineMap) -> i64
+    requires { ⌜ MapWithin m ⌝ }
+    ensures { λ r. ⌜ r ≡ determinant m ⌝ }
+{
+    (m.a * m.h - m.b * m.g) as i64
+}
+
+// The bracket of X6 with a, b, e, and of Y6 with g, h, f.
+fn first_moment(a: i64, b: i64, e: i64, t: outline::Totals) -> i64
+    requires { ⌜ RowWithin a b e ⌝ }
+    requires { ⌜ Fit outlineBounds t ⌝ }
+    ensures { λ r. ⌜ r ≡ firstMoment a b e t ⌝ }
+{
+    a * t.x6 + b * t.y6 + 3 * e * t.a2
+}
+
+// The bracket of XX12 with a, b, e, and of YY12 with g, h, f: at most 2.82·10^18 in size.
+fn second_moment(a: i64, b: i64, e: i64, t: outline::Totals) -> i64
+    requires { ⌜ RowWithin a b e ⌝ }
+    requires { ⌜ Fit outlineBounds t ⌝ }
+    ensures { λ r. ⌜ r ≡ secondMoment a b e t ⌝ }
+{
+    let second_order = a * a * t.xx12 + b * b * t.yy12 + a * b * t.xy24;
+    second_order + 4 * a * e * t.x6 + 4 * b * e * t.y6 + 6 * (e * e) * t.a2
+}
+
+// The bracket of XY24: at most 5.64·10^18 in size.
+fn mixed_moment(a: i64, b: i64, e: i64, g: i64, h: i64, f: i64, t: outline::Totals) -> i64
+    requires { ⌜ RowWithin a b e ⌝ }
+    requires { ⌜ RowWithin g h f ⌝ }
+    requires { ⌜ Fit outlineBounds t ⌝ }
+    ensures { λ r. ⌜ r ≡ mixedMoment a b e g h f t ⌝ }
+{
+    let second_order = 2 * a * g * t.xx12 + 2 * b * h * t.yy12 + (a * h + b * g) * t.xy24;
+    second_order + 4 * (g * e + a * f) * t.x6 + 4 * (h * e + b * f) * t.y6 + 12 * e * f * t.a2
+}
+
+// What stands behind d in each of the six formulas.
+fn brackets(m: outline::AffineMap, t: outline::Totals) -> outline::Totals
+    requires { ⌜ MapWithin m ⌝ }
+    requires { ⌜ Fit outlineBounds t ⌝ }
+    ensures { λ r. ⌜ r ≡ brackets m t ⌝ }
+{
+    let a = m.a as i64;
+    let b = m.b as i64;
+    let g = m.g as i64;
+    let h = m.h as i64;
+    let e = m.e as i64;
+    let f = m.f as i64;
+    outline::Totals {
+        a2: t.a2,
+        x6: first_moment(a, b, e, t),
+        y6: first_moment(g, h, f, t),
+        xx12: second_moment(a, b, e, t),
+        xy24: mixed_moment(a, b, e, g, h, f, t),
+        yy12: second_moment(g, h, f, t),
+    }
+}
+
+// Whether d × v is over the limit. Times 8, a bracket may not fit 64 bits, so the product is made only of one within the limit.
+fn product_over(d: i64, v: i64) -> bool
+    requires { ⌜ natAbs d ≤ 8 ⌝ }
+    ensures { λ r. ⌜ r ≡ over (10 ^ 18) (d *ℤ v) ⌝ }
+{
+    if d == 0 {
+        return false;
+    }
+    if size_exceeds(v, TOTAL_LIMIT) {
+        return true;
+    }
+    size_exceeds(d * v, TOTAL_LIMIT)
+}
+
+// Refusal 5, from the brackets s.
+fn result_outside_limits(d: i64, s: outline::Totals) -> bool
+    requires { ⌜ natAbs d ≤ 8 ⌝ }
+    ensures { λ r. ⌜ r ≡ exceed totalLimits (scaled d s) ⌝ }
+{
+    product_over(d, s.a2)
+        | product_over(d, s.x6)
+        | product_over(d, s.y6)
+        | product_over(d, s.xx12)
+        | product_over(d, s.xy24)
+        | product_over(d, s.yy12)
+}
+
+fn scaled(d: i64, s: outline::Totals) -> outline::Totals
+    requires { ⌜ Fit totalLimits (scaled d s) ⌝ }
+    ensures { λ r. ⌜ r ≡ scaled d s ⌝ }
+{
+    outline::Totals {
+        a2: d * s.a2,
+        x6: d * s.x6,
+        y6: d * s.y6,
+        xx12: d * s.xx12,
+        xy24: d * s.xy24,
+        yy12: d * s.yy12,
+    }
+}
+
+// The map call: the totals of the mapped outline, from the totals of the outline.
+pub fn map_totals(m: outline::AffineMap, t: outline::Totals) -> MapAnswer
+    ensures { λ r. ⌜ reading r ≡ mapCall m t ⌝ }
+{
+    if map_outside_limits(m) {
+        return MapAnswer::MapOutsideLimits;
+    }
+    if limits::outside_bounds(t) {
+        return MapAnswer::TotalsOutsideBounds;
+    }
+    let d = determinant(m);
+    let s = brackets(m, t);
+    if result_outside_limits(d, s) {
+        return MapAnswer::ResultOutsideLimits;
+    }
+    MapAnswer::Mapped(scaled(d, s))
+}
