@@ -1,6 +1,6 @@
 -- A solver for identities between polynomials over ℤ, by reflection.
 --     ring (x ∷ y ∷ []) (search quote depth 30) (search quote depth 30) tt : (x +ℤ y) *ℤ (x -ℤ y) ≡ x *ℤ x -ℤ y *ℤ y
--- The list names what counts as a variable: any terms, up to 18. `Quote ρ z` says how z is made of ρ's numbers by +ℤ, *ℤ, negℤ, -ℤ and closed
+-- The list names what counts as a variable: any terms. `Quote ρ z` says how z is made of ρ's numbers by +ℤ, *ℤ, negℤ, -ℤ and closed
 -- literals `pos 3`, `negsuc 0`; `search quote` finds it. `tt` is taken where the difference of the two polynomials computes to 0. Where it does not,
 -- the refusal has `Differ (3 ∷ 1 ∷ 0 ∷ []) (pos 2)`: a term that is left, with its powers, last variable first, and its coefficient.
 -- All that computes is an `abbrev`, so that a caller in another crate needs no `unfolding` line. Assumes nothing.

@@ -1,5 +1,9 @@
--- What the code computes at signed widths: every local is read as `toZ w (ofZ w z)`, which is z where z fits. `search code` finds how a value
--- was made, and one computed test says that every step fits.
+-- The needs of signed code, by reflection. In a need every local is read as `toZ w (ofZ w z)`, which is z where z fits. `search code` finds how a value
+-- was made; one computed test says that every step on the way fits:
+--     add-sum c = run-fits (values c) sizes (small c) (search code depth 40) tt      -- this step fits
+--     returns c = runs (values c) sizes (small c) (search code depth 40) tt          -- the result is the plain expression
+-- `values` lists what counts as a variable, `sizes` a bound on each. A parameter of a full range is listed as `fit64 values (c .fits .x)` before `code`.
+-- The other way, an expression written by hand beside each operation of the code, was tried and left: it says the code twice, and had one width and no division.
 use mathlib.Core.Path.{_≡_, refl, sym, _∙_, ap, ap₂, subst}
 use mathlib.Core.List.{List, [], _∷_}
 use mathlib.Core.Bool.{Bool, true, false, not}
