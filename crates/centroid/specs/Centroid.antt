@@ -40,19 +40,17 @@ refused n = record { number = n; x = pos 0; y = pos 0 }
 abbrev pub centred : ℤ → ℤ → ℤ → CentroidOutcome
 centred nx ny d = record { number = 0; x = centre nx d; y = centre ny d }
 
--- Outline or sheet: N is X6 or Y6, D is 3×A2, and all are negated if A2 is negative.
-unfoldable pub outlineCentre : Totals → CentroidOutcome
-outlineCentre t =
-    cond (ltZ (t .a2) (pos 0))
-    (centred (negℤ (t .x6)) (negℤ (t .y6)) (negℤ (pos 3 *ℤ t .a2)))
-    (centred (t .x6) (t .y6) (pos 3 *ℤ t .a2))
+-- z, negated if A2 is negative.
+unfoldable pub signedBy : ℤ → ℤ → ℤ
+signedBy a2 z = cond (ltZ a2 (pos 0)) (negℤ z) z
 
 -- Refusal 11: a total is greater in size than 10^18. Refusal 27: A2 is 0. Order: 11, 27.
-unfoldable pub outlineCentroid : Totals → CentroidOutcome
-outlineCentroid t =
+-- Else, for an outline or a sheet, N is X6 or Y6 and D is 3×A2, both negated if A2 is negative.
+unfoldable pub outlineCentroidCall : Totals → CentroidOutcome
+outlineCentroidCall t =
     cond (exceed totalLimits t) (refused 11)
     (cond (eqb (natAbs (t .a2)) 0) (refused 27)
-    (outlineCentre t))
+    (centred (signedBy (t .a2) (t .x6)) (signedBy (t .a2) (t .y6)) (signedBy (t .a2) (pos 3 *ℤ t .a2))))
 
 -- A cell sum is negative or over its limit.
 unfoldable pub outsideLimit : ℤ → ℤ → Bool
@@ -69,8 +67,8 @@ sumsOutside s =
     || outsideLimit (pos (10 ^ 18)) (s .yy)
 
 -- Cells: N is the sum of x or of y, D is A. Refusal 27: A is 0. Order: 11, 27.
-unfoldable pub regionCentroid : CellSums → CentroidOutcome
-regionCentroid s =
+unfoldable pub regionCentroidCall : CellSums → CentroidOutcome
+regionCentroidCall s =
     cond (sumsOutside s) (refused 11)
     (cond (eqb (natAbs (s .count)) 0) (refused 27)
     (centred (s .x) (s .y) (s .count)))

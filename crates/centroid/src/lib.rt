@@ -1,6 +1,6 @@
 // The centre of outline totals and of cell sums: an exact quotient, rounded to a whole number with halves up.
 ghost use mathlib.Core.Path.{_≡_};
-ghost use Rattle.centroid.specs.Centroid.{centre, centred, outlineCentroid, outsideLimit, sumsOutside, regionCentroid};
+ghost use Rattle.centroid.specs.Centroid.{centre, centred, outlineCentroidCall, outsideLimit, sumsOutside, regionCentroidCall};
 ghost use Rattle.centroid.specs.Answers.{reading, QuotientBounds};
 
 // The sums over the cells of a region: A, the number of cells, then the sums of x, y, x², xy and y².
@@ -42,7 +42,7 @@ fn nearest(n: i64, d: i64) -> i64
 }
 
 // The centre, in the unit of the coordinates: decimetres or, for a region, cells.
-fn centred(nx: i64, ny: i64, d: i64) -> CentroidAnswer
+fn centre_at(nx: i64, ny: i64, d: i64) -> CentroidAnswer
     requires { ⌜ QuotientBounds nx d ⌝ }
     requires { ⌜ QuotientBounds ny d ⌝ }
     ensures { λ r. ⌜ reading r ≡ centred nx ny d ⌝ }
@@ -52,7 +52,7 @@ fn centred(nx: i64, ny: i64, d: i64) -> CentroidAnswer
 
 // The centre of an outline, or of a sheet, by its totals.
 pub fn outline_centroid(t: outline::Totals) -> CentroidAnswer
-    ensures { λ r. ⌜ reading r ≡ outlineCentroid t ⌝ }
+    ensures { λ r. ⌜ reading r ≡ outlineCentroidCall t ⌝ }
 {
     if limits::outside_limits(t) {
         return CentroidAnswer::OutsideLimits;
@@ -61,9 +61,9 @@ pub fn outline_centroid(t: outline::Totals) -> CentroidAnswer
         return CentroidAnswer::NoArea;
     }
     if t.a2 < 0 {
-        return centred(-t.x6, -t.y6, -(3 * t.a2));
+        return centre_at(-t.x6, -t.y6, -(3 * t.a2));
     }
-    centred(t.x6, t.y6, 3 * t.a2)
+    centre_at(t.x6, t.y6, 3 * t.a2)
 }
 
 // The cell sum is negative or over its limit.
@@ -88,7 +88,7 @@ fn sums_outside(s: CellSums) -> bool
 
 // The centre of a region, by the sums over its cells.
 pub fn region_centroid(s: CellSums) -> CentroidAnswer
-    ensures { λ r. ⌜ reading r ≡ regionCentroid s ⌝ }
+    ensures { λ r. ⌜ reading r ≡ regionCentroidCall s ⌝ }
 {
     if sums_outside(s) {
         return CentroidAnswer::OutsideLimits;
@@ -96,5 +96,5 @@ pub fn region_centroid(s: CellSums) -> CentroidAnswer
     if s.count == 0 {
         return CentroidAnswer::NoArea;
     }
-    centred(s.x, s.y, s.count)
+    centre_at(s.x, s.y, s.count)
 }

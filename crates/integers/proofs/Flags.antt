@@ -11,6 +11,10 @@ pub or-right : (a b : Bool) → (a || b) ≡ false → b ≡ false
 or-right true b e = absurd (true≢false e)
 or-right false b e = e
 
+-- Neither holds.
+pub both-failed : (a b : Bool) → (a || b) ≡ false → (a ≡ false) × (b ≡ false)
+both-failed a b e = (or-left a b e, or-right a b e)
+
 pub neither : {a b : Bool} → a ≡ false → b ≡ false → (a || b) ≡ false
 neither e f = rw (e, f)
 

@@ -15,7 +15,7 @@ use Rattle.outline.specs.declared.Totals.{Totals}
 use Rattle.outline.specs.EdgeSums.{exceed}
 use Rattle.outline.specs.MapCall.{totalLimits}
 use Rattle.outline.proofs.Limits.{exceed-fit}
-use Rattle.centroid.specs.Centroid.{outlineCentroid, outlineCentre}
+use Rattle.centroid.specs.Centroid.{outlineCentroidCall, signedBy}
 use Rattle.centroid.specs.Answers.{QuotientBounds, reading}
 use Rattle.centroid.proofs.CodeTests.{zero-size, nonzero-size}
 use Rattle.centroid.proofs.Limits.{bounds-above, bounds-below, same-bounds, same-centre}
@@ -80,29 +80,29 @@ outside-limits-requires : tie.Need-outside-limits-requires
 outside-limits-requires c κs = search needs
 
 returns : tie.Need-returns
-unfolding outlineCentroid reading
+unfolding outlineCentroidCall reading
 returns c = rw (sym (c .before .outside-limits .ensures) ∙ c .if1 .taken)
 
 returns-2 : tie.Need-returns-2
-unfolding outlineCentroid reading
+unfolding outlineCentroidCall reading
 returns-2 c =
     let i = c .before .before .before in
     rw (inside i, zero-size (totals i .a2) (a2-held (i .before .before)) (c .if2 .taken))
 
-sub-centred : tie.Need-sub-centred
-sub-centred c = run-fits (ρ (c .before .before .before .before .before .before .before .before .before .before)) B (small (c .before .before .before .before .before .before .before .before)) (search code depth 40) tt
+sub-centre-at : tie.Need-sub-centre-at
+sub-centre-at c = run-fits (ρ (c .before .before .before .before .before .before .before .before .before .before)) B (small (c .before .before .before .before .before .before .before .before)) (search code depth 40) tt
 
-sub-centred-2 : tie.Need-sub-centred-2
-sub-centred-2 c = run-fits (ρ (c .before .before .before .before .before .before .before .before .before .before .before .before)) B (small (c .before .before .before .before .before .before .before .before .before .before)) (search code depth 40) tt
+sub-centre-at-2 : tie.Need-sub-centre-at-2
+sub-centre-at-2 c = run-fits (ρ (c .before .before .before .before .before .before .before .before .before .before .before .before)) B (small (c .before .before .before .before .before .before .before .before .before .before)) (search code depth 40) tt
 
-mul-centred : tie.Need-mul-centred
-mul-centred c = run-fits (ρ (c .before .before .before .before .before .before .before .before .before .before .before .before .before .before)) B (small (c .before .before .before .before .before .before .before .before .before .before .before .before)) (search code depth 40) tt
+mul-centre-at : tie.Need-mul-centre-at
+mul-centre-at c = run-fits (ρ (c .before .before .before .before .before .before .before .before .before .before .before .before .before .before)) B (small (c .before .before .before .before .before .before .before .before .before .before .before .before)) (search code depth 40) tt
 
-sub-centred-3 : tie.Need-sub-centred-3
-sub-centred-3 c = run-fits (ρ (c .before .before .before .before .before .before .before .before .before .before .before .before .before .before)) B (small (c .before .before .before .before .before .before .before .before .before .before .before .before)) (search code depth 40) tt
+sub-centre-at-3 : tie.Need-sub-centre-at-3
+sub-centre-at-3 c = run-fits (ρ (c .before .before .before .before .before .before .before .before .before .before .before .before .before .before)) B (small (c .before .before .before .before .before .before .before .before .before .before .before .before)) (search code depth 40) tt
 
-centred-requires : tie.Need-centred-requires
-centred-requires c κs =
+centre-at-requires : tie.Need-centre-at-requires
+centre-at-requires c κs =
     let i = c .before .before .before .before .before .before .before .before .before .before .before .before in
     let t = totals i in
     let k = exceed-fit totalLimits t (inside i) in
@@ -110,16 +110,16 @@ centred-requires c κs =
     (same-bounds (x6-negated i) (tripled-negated i) (b (t .x6) (k .x6)), same-bounds (y6-negated i) (tripled-negated i) (b (t .y6) (k .y6)))
 
 returns-3 : tie.Need-returns-3
-unfolding outlineCentroid outlineCentre
+unfolding outlineCentroidCall signedBy
 returns-3 c =
     let i = c .before .before .before .before .before .before .before .before .before .before .before .before .before in
-    rw (inside i, some (c .before .before .before .before .before .before .before .before .before .before), below (c .before .before .before .before .before .before .before)) (c .centred .ensures ∙ same-centre (x6-negated i) (y6-negated i) (tripled-negated i))
+    rw (inside i, some (c .before .before .before .before .before .before .before .before .before .before), below (c .before .before .before .before .before .before .before)) (c .centre-at .ensures ∙ same-centre (x6-negated i) (y6-negated i) (tripled-negated i))
 
-mul-centred-2 : tie.Need-mul-centred-2
-mul-centred-2 c = run-fits (ρ (c .before .before .before .before .before .before .before .before .before .before)) B (small (c .before .before .before .before .before .before .before .before)) (search code depth 40) tt
+mul-centre-at-2 : tie.Need-mul-centre-at-2
+mul-centre-at-2 c = run-fits (ρ (c .before .before .before .before .before .before .before .before .before .before)) B (small (c .before .before .before .before .before .before .before .before)) (search code depth 40) tt
 
-centred-requires-2 : tie.Need-centred-requires-2
-centred-requires-2 c κs =
+centre-at-requires-2 : tie.Need-centre-at-requires-2
+centre-at-requires-2 c κs =
     let i = c .before .before .before .before .before .before .before .before .before .before in
     let s = i .before .before in
     let t = totals i in
@@ -128,11 +128,11 @@ centred-requires-2 c κs =
     (same-bounds (x6-held s) (tripled i) (b (t .x6) (k .x6)), same-bounds (y6-held s) (tripled i) (b (t .y6) (k .y6)))
 
 returns-4 : tie.Need-returns-4
-unfolding outlineCentroid outlineCentre
+unfolding outlineCentroidCall signedBy
 returns-4 c =
     let i = c .before .before .before .before .before .before .before .before .before .before .before in
     let s = i .before .before in
-    rw (inside i, some (c .before .before .before .before .before .before .before .before), above (c .before .before .before .before .before)) (c .centred2 .ensures ∙ same-centre (x6-held s) (y6-held s) (tripled i))
+    rw (inside i, some (c .before .before .before .before .before .before .before .before), above (c .before .before .before .before .before)) (c .centre-at2 .ensures ∙ same-centre (x6-held s) (y6-held s) (tripled i))
 
 pub outline-centroid-spec : {M : Type 1} → statement M
 outline-centroid-spec =
@@ -141,12 +141,12 @@ outline-centroid-spec =
     outside-limits-requires
     returns
     returns-2
-    sub-centred
-    sub-centred-2
-    mul-centred
-    sub-centred-3
-    centred-requires
+    sub-centre-at
+    sub-centre-at-2
+    mul-centre-at
+    sub-centre-at-3
+    centre-at-requires
     returns-3
-    mul-centred-2
-    centred-requires-2
+    mul-centre-at-2
+    centre-at-requires-2
     returns-4)

@@ -9,7 +9,7 @@ use lib.IntN.{ℤ, natAbs}
 use mir.Syntax.{w64}
 use mir.Val.{toZ, ofZ}
 use Rattle.centroid.specs.declared.CellSums.{CellSums}
-use Rattle.centroid.specs.Centroid.{sumsOutside, regionCentroid}
+use Rattle.centroid.specs.Centroid.{sumsOutside, regionCentroidCall}
 use Rattle.centroid.specs.Answers.{QuotientBounds, reading}
 use Rattle.centroid.proofs.CodeTests.{zero-size, nonzero-size}
 use Rattle.centroid.proofs.Limits.{sums-within, bounds, same-bounds, same-centre}
@@ -43,17 +43,17 @@ sums-outside-requires : tie.Need-sums-outside-requires
 sums-outside-requires c κs = search needs
 
 returns : tie.Need-returns
-unfolding regionCentroid reading
+unfolding regionCentroidCall reading
 returns c = rw (sym (c .before .sums-outside .ensures) ∙ c .if1 .taken)
 
 returns-2 : tie.Need-returns-2
-unfolding regionCentroid reading
+unfolding regionCentroidCall reading
 returns-2 c =
     let i = c .before .before .before in
     rw (inside i, zero-size (sums i .count) (count-held (i .before .before)) (c .if2 .taken))
 
-centred-requires : tie.Need-centred-requires
-centred-requires c κs =
+centre-at-requires : tie.Need-centre-at-requires
+centre-at-requires c κs =
     let i = c .before .before .before .before .before .before in
     let s = i .before .before in
     let k = sums-within (sums i) (inside i) in
@@ -61,12 +61,12 @@ centred-requires c κs =
     (same-bounds (x-held s) (count-held s) (b (sums i .x) (k .x)), same-bounds (y-held s) (count-held s) (b (sums i .y) (k .y)))
 
 returns-3 : tie.Need-returns-3
-unfolding regionCentroid
+unfolding regionCentroidCall
 returns-3 c =
     let i = c .before .before .before .before .before .before .before in
     let s = i .before .before in
-    rw (inside i, some (c .before .before .before .before)) (c .centred .ensures ∙ same-centre (x-held s) (y-held s) (count-held s))
+    rw (inside i, some (c .before .before .before .before)) (c .centre-at .ensures ∙ same-centre (x-held s) (y-held s) (count-held s))
 
 pub region-centroid-spec : {M : Type 1} → statement M
 region-centroid-spec =
-    tie.close (tie.spec sums-outside-requires returns returns-2 centred-requires returns-3)
+    tie.close (tie.spec sums-outside-requires returns returns-2 centre-at-requires returns-3)

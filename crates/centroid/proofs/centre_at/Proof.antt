@@ -1,4 +1,4 @@
--- `centroid::centred` meets its contract, by what the two quotients ensure.
+-- `centre_at` meets its contract, by what the two quotients ensure.
 use borrow.Author.Needs.{needs}
 use mathlib.Core.Path.{_≡_}
 use lib.IntN.{ℤ}
@@ -7,8 +7,8 @@ use mir.Val.{toZ, ofZ, SFits}
 use mir.Facts.{toZ-ofZ}
 use Rattle.centroid.specs.Centroid.{centre}
 use Rattle.centroid.specs.Answers.{reading}
-use Rattle.centroid.proofs.centred.Statement.{statement}
-use Rattle.centroid.proofs.centred.Tie as tie
+use Rattle.centroid.proofs.centre_at.Statement.{statement}
+use Rattle.centroid.proofs.centre_at.Tie as tie
 
 -- a quotient as the machine holds it, of an N and a D as it holds them
 quotient : {n d r : ℤ} → SFits w64 n → SFits w64 d → SFits w64 r → r ≡ centre (toZ w64 (ofZ w64 n)) (toZ w64 (ofZ w64 d)) → toZ w64 (ofZ w64 r) ≡ centre n d
@@ -28,5 +28,5 @@ returns c =
     let y = quotient (s .fits .ny) (s .fits .d) (record { sfits = c .nearest2 .ok }) (c .nearest2 .ensures) in
     λ i. record { number = 0; x = x i; y = y i }
 
-pub centred-spec : {M : Type 1} → statement M
-centred-spec = tie.close (tie.spec nearest-requires nearest-requires-2 returns)
+pub centre-at-spec : {M : Type 1} → statement M
+centre-at-spec = tie.close (tie.spec nearest-requires nearest-requires-2 returns)

@@ -1,0 +1,47 @@
+-- Document 01, "The text program": the lines of the output, as bytes.
+use Prim.Native.Nat.{ℕ, zero, suc, _+_, _/_, _%_}
+use mathlib.Core.Bool.{Bool, cond}
+use mathlib.Core.List.{List, [], _∷_, _++_}
+use lib.Dec.{ltb, eqb}
+use lib.IntN.{ℤ, pos, negsuc}
+use Rattle.outline.specs.declared.Totals.{Totals}
+use Rattle.outline.specs.declared.Sheet.{Sheet}
+use Rattle.centroid.specs.Centroid.{CentroidOutcome, outlineCentroidCall}
+
+-- The decimal digits of n, at most `most` of them.
+unfoldable pub digits : ℕ → ℕ → List ℕ
+digits zero n = []
+digits (suc most) n = cond (ltb n 10) ((48 + n) ∷ []) (digits most (n / 10) ++ (48 + n % 10) ∷ [])
+
+-- A number has no more digits than its value and one.
+unfoldable pub decimal : ℕ → List ℕ
+decimal n = digits (suc n) n
+
+-- A minus before a negative number.
+unfoldable pub signed : ℤ → List ℕ
+signed (pos n) = decimal n
+signed (negsuc n) = 45 ∷ decimal (suc n)
+
+-- A tab and a number.
+abbrev pub field : ℤ → List ℕ
+field z = 9 ∷ signed z
+
+-- The six totals in the table's order.
+unfoldable pub totalsText : Totals → List ℕ
+totalsText t = field (t .a2) ++ field (t .x6) ++ field (t .y6) ++ field (t .xx12) ++ field (t .xy24) ++ field (t .yy12)
+
+-- A missing centre prints a minus twice.
+unfoldable pub centreText : CentroidOutcome → List ℕ
+centreText c = cond (eqb (c .number) 0) (field (c .x) ++ field (c .y)) (9 ∷ 45 ∷ 9 ∷ 45 ∷ [])
+
+-- O: the outline's number, its points, its totals and its centre.
+unfoldable pub outlineLine : ℕ → ℕ → Totals → List ℕ
+outlineLine count points t = 79 ∷ field (pos count) ++ field (pos points) ++ totalsText t ++ centreText (outlineCentroidCall t) ++ 10 ∷ []
+
+-- R: the line's number and the refusal's.
+unfoldable pub refusalLine : ℕ → ℕ → List ℕ
+refusalLine line refusal = 82 ∷ field (pos line) ++ field (pos refusal) ++ 10 ∷ []
+
+-- S: the sheet's count, its totals and its centre.
+unfoldable pub sheetLine : Sheet → List ℕ
+sheetLine s = 83 ∷ field (pos (s .count)) ++ totalsText (s .totals) ++ centreText (outlineCentroidCall (s .totals)) ++ 10 ∷ []

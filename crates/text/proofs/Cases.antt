@@ -1,0 +1,24 @@
+-- Cases of a test.
+use mathlib.Core.Path.{_≡_, refl}
+use mathlib.Core.Bool.{Bool, true, false, _&&_, _||_, cond}
+
+-- What holds of both branches, each where the test goes that way, holds of the whole.
+pub by-cond : {A : Type 0} (P : A → Type 0) (t : Bool) {yes no : A} → (t ≡ true → P yes) → (t ≡ false → P no) → P (cond t yes no)
+by-cond P true h k = h refl
+by-cond P false h k = k refl
+
+-- The same for two tests joined.
+pub by-or : {A : Type 0} (P : A → Type 0) (t u : Bool) {yes no : A} → (t ≡ true → P yes) → (t ≡ false → u ≡ true → P yes) → (t ≡ false → u ≡ false → P no) → P (cond (t || u) yes no)
+by-or P true u h k l = h refl
+by-or P false true h k l = k refl refl
+by-or P false false h k l = l refl refl
+
+pub by-and : {A : Type 0} (P : A → Type 0) (t u : Bool) {yes no : A} → (t ≡ true → u ≡ true → P yes) → (t ≡ false → P no) → (t ≡ true → u ≡ false → P no) → P (cond (t && u) yes no)
+by-and P true true h k l = h refl refl
+by-and P true false h k l = l refl refl
+by-and P false u h k l = k refl
+
+-- Two tests alike: what is equal in both branches is equal.
+pub both-cond : {A B : Type 0} (f : A → B) (t : Bool) {a b c d : A} → (t ≡ true → f a ≡ f c) → (t ≡ false → f b ≡ f d) → f (cond t a b) ≡ f (cond t c d)
+both-cond f true h k = h refl
+both-cond f false h k = k refl
