@@ -1,0 +1,5 @@
+pub mod Tests
+pub mod Sizes
+pub mod ListSteps
+pub mod SoundWalks
+pub mod ReadingLaws

@@ -1,0 +1,24 @@
+-- `survey::walk::abandon` meets its contract: the tests stand in the definition's order.
+use borrow.Author.Needs.{needs}
+use Rattle.outline.specs.WalkCalls.{abandonCall}
+use Rattle.survey.proofs.Tests.{tells}
+use Rattle.survey.proofs.walk.abandon.Statement.{statement}
+use Rattle.survey.proofs.walk.abandon.Tie as tie
+
+unsound-walk-requires : tie.Need-unsound-walk-requires
+unsound-walk-requires c κs = search needs
+
+returns : tie.Need-returns
+unfolding abandonCall
+returns c = rw (tells (c .before .unsound-walk .ensures) (c .if1 .taken))
+
+returns-2 : tie.Need-returns-2
+unfolding abandonCall
+returns-2 c = rw (tells (c .before .before .before .unsound-walk .ensures) (c .before .before .if1 .left), c .if2 .taken)
+
+returns-3 : tie.Need-returns-3
+unfolding abandonCall
+returns-3 c = rw (tells (c .before .before .before .unsound-walk .ensures) (c .before .before .if1 .left), c .if2 .left)
+
+pub abandon-spec : {M : Type 1} → statement M
+abandon-spec = tie.close (tie.spec unsound-walk-requires returns returns-2 returns-3)

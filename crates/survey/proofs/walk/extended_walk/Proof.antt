@@ -1,0 +1,34 @@
+-- `survey::walk::extended_walk` meets its contract: the edge from a sound walk's last point to a point within the limits can be added.
+use borrow.Author.Needs.{needs}
+use borrow.Author.Tests.{eq-eqb, ne-eqb}
+use Rattle.outline.specs.WalkCalls.{extended}
+use Rattle.survey.proofs.Sizes.{edge-within}
+use Rattle.survey.proofs.SoundWalks.{SoundOpen, sound-open, walked-within}
+use Rattle.survey.proofs.walk.extended_walk.Statement.{statement}
+use Rattle.survey.proofs.walk.extended_walk.Tie as tie
+
+sound : (s : tie.Start) → SoundOpen (s .args .w)
+sound s = sound-open (s .args .w) (s .pre .0) (s .pre .1 .0)
+
+returns : tie.Need-returns
+unfolding extended
+returns c = rw (eq-eqb _ _ (c .if1 .taken))
+
+edge-between-requires : tie.Need-edge-between-requires
+edge-between-requires c κs = let s = c .before .before .before .before .before in (sound s .last (c .before .before .if1 .left), s .pre .1 .1 .1)
+
+add-requires : tie.Need-add-requires
+add-requires c κs =
+    let s = c .before .before .before .before .before .before in
+    let ends = edge-between-requires (c .before) κs in
+    (walked-within (s .args .w) (sound s), rw (c .edge-between .ensures) (edge-within _ _ (ends .0) (ends .1)))
+
+add-t9 : tie.Need-add-t9
+add-t9 c = search needs
+
+returns-2 : tie.Need-returns-2
+unfolding extended
+returns-2 c = rw (ne-eqb _ _ (c .before .before .before .before .before .if1 .left), c .before .add .ensures, c .before .before .edge-between .ensures)
+
+pub extended-walk-spec : {M : Type 1} → statement M
+extended-walk-spec = tie.close (tie.spec returns edge-between-requires add-requires add-t9 returns-2)

@@ -1,0 +1,269 @@
+// The four calls of a walk, by value: each is handed the walk, and end the sheet too, and hands back what it leaves.
+ghost use mathlib.Core.Path.{_≡_};
+ghost use mathlib.Core.Bool.{true, false};
+ghost use Prim.Native.Nat.{_<_, _≤_};
+ghost use Rattle.outline.specs.ListCall.{outside};
+ghost use Rattle.outline.specs.WalkCalls.{closed, newSheet, extended, closedTotals, unsoundWalk, beginCall, pointCall, endCall, abandonCall};
+ghost use Rattle.survey.specs.WalkAnswers.{beginReading, pointReading, endReading, abandonReading};
+use crate::ZEROS;
+use crate::add;
+use crate::edge_between;
+use crate::outside_limits;
+use crate::sound::unsound_sheet;
+use crate::sound::unsound_walk;
+use outline::Position;
+use outline::Sheet;
+use outline::Totals;
+use outline::Walk;
+
+pub enum BeginAnswer {
+    Accepted,
+    Unsound,
+    AlreadyOpen,
+}
+
+pub struct BeginReply {
+    pub answer: BeginAnswer,
+    pub walk: Walk,
+}
+
+pub enum PointAnswer {
+    Accepted,
+    Unsound,
+    NotOpen,
+    OutsideLimits,
+    Full,
+}
+
+pub struct PointReply {
+    pub answer: PointAnswer,
+    pub walk: Walk,
+}
+
+pub enum EndAnswer {
+    Accepted(Totals),
+    Unsound,
+    NotOpen,
+    TooFewPoints,
+    SheetFull,
+    SheetExceeded,
+}
+
+pub struct EndReply {
+    pub answer: EndAnswer,
+    pub walk: Walk,
+    pub sheet: Sheet,
+}
+
+pub enum AbandonAnswer {
+    Accepted,
+    Unsound,
+    NotOpen,
+}
+
+pub struct AbandonReply {
+    pub answer: AbandonAnswer,
+    pub walk: Walk,
+}
+
+const ORIGIN: Position = Position { x: 0, y: 0 };
+
+const CLOSED: Walk = Walk {
+    is_open: false,
+    count: 0,
+    first: ORIGIN,
+    last: ORIGIN,
+    totals: ZEROS,
+};
+
+const OPENED: Walk = Walk {
+    is_open: true,
+    count: 0,
+    first: ORIGIN,
+    last: ORIGIN,
+    totals: ZEROS,
+};
+
+// A walk that was never opened.
+pub fn new_walk() -> Walk
+    ensures { λ r. ⌜ r ≡ closed ⌝ }
+{
+    CLOSED
+}
+
+pub fn new_sheet() -> Sheet
+    ensures { λ r. ⌜ r ≡ newSheet ⌝ }
+{
+    Sheet {
+        count: 0,
+        totals: ZEROS,
+    }
+}
+
+pub fn begin(w: Walk) -> BeginReply
+    ensures { λ r. ⌜ beginReading r ≡ beginCall w ⌝ }
+{
+    if unsound_walk(w) {
+        return BeginReply {
+            answer: BeginAnswer::Unsound,
+            walk: w,
+        };
+    }
+    if w.is_open {
+        return BeginReply {
+            answer: BeginAnswer::AlreadyOpen,
+            walk: w,
+        };
+    }
+    BeginReply {
+        answer: BeginAnswer::Accepted,
+        walk: OPENED,
+    }
+}
+
+// The walk with one point more.
+fn extended_walk(w: Walk, p: Position) -> Walk
+    requires { ⌜ unsoundWalk w ≡ false ⌝ }
+    requires { ⌜ w .is_open ≡ true ⌝ }
+    requires { ⌜ w .count < 1024 ⌝ }
+    requires { ⌜ outside p ≡ false ⌝ }
+    ensures { λ r. ⌜ r ≡ extended w p ⌝ }
+{
+    let totals = w.totals;
+    if w.count == 0 {
+        return Walk {
+            is_open: w.is_open,
+            count: 1,
+            first: p,
+            last: p,
+            totals,
+        };
+    }
+    let first = w.first;
+    let last = w.last;
+    let edge = edge_between(last, p);
+    let sum = add(totals, edge);
+    Walk {
+        is_open: w.is_open,
+        count: w.count + 1,
+        first,
+        last: p,
+        totals: sum,
+    }
+}
+
+pub fn point(w: Walk, x: i32, y: i32) -> PointReply
+    ensures { λ r. ⌜ pointReading r ≡ pointCall w (record { x = x; y = y }) ⌝ }
+{
+    if unsound_walk(w) {
+        return PointReply {
+            answer: PointAnswer::Unsound,
+            walk: w,
+        };
+    }
+    if !w.is_open {
+        return PointReply {
+            answer: PointAnswer::NotOpen,
+            walk: w,
+        };
+    }
+    let p = Position { x, y };
+    if outside_limits(p) {
+        return PointReply {
+            answer: PointAnswer::OutsideLimits,
+            walk: w,
+        };
+    }
+    if 1024 <= w.count {
+        return PointReply {
+            answer: PointAnswer::Full,
+            walk: w,
+        };
+    }
+    let extended = extended_walk(w, p);
+    PointReply {
+        answer: PointAnswer::Accepted,
+        walk: extended,
+    }
+}
+
+// The walk's totals with the closing edge.
+fn closed_totals(w: Walk) -> Totals
+    requires { ⌜ unsoundWalk w ≡ false ⌝ }
+    requires { ⌜ w .is_open ≡ true ⌝ }
+    requires { ⌜ 3 ≤ w .count ⌝ }
+    ensures { λ r. ⌜ r ≡ closedTotals w ⌝ }
+{
+    let totals = w.totals;
+    let last = w.last;
+    let first = w.first;
+    let edge = edge_between(last, first);
+    add(totals, edge)
+}
+
+fn refused_end(answer: EndAnswer, walk: Walk, sheet: Sheet) -> EndReply
+    ensures { λ r. ⌜ r ≡ record { answer = answer; walk = walk; sheet = sheet } ⌝ }
+{
+    EndReply {
+        answer,
+        walk,
+        sheet,
+    }
+}
+
+pub fn end(w: Walk, s: Sheet) -> EndReply
+    ensures { λ r. ⌜ endReading r ≡ endCall w s ⌝ }
+{
+    if unsound_walk(w) {
+        return refused_end(EndAnswer::Unsound, w, s);
+    }
+    if unsound_sheet(s) {
+        return refused_end(EndAnswer::Unsound, w, s);
+    }
+    if !w.is_open {
+        return refused_end(EndAnswer::NotOpen, w, s);
+    }
+    if w.count < 3 {
+        return refused_end(EndAnswer::TooFewPoints, w, s);
+    }
+    if 64 <= s.count {
+        return refused_end(EndAnswer::SheetFull, w, s);
+    }
+    let added = closed_totals(w);
+    let earlier = s.totals;
+    let sums = add(earlier, added);
+    if limits::outside_limits(sums) {
+        return refused_end(EndAnswer::SheetExceeded, w, s);
+    }
+    let sheet = Sheet {
+        count: s.count + 1,
+        totals: sums,
+    };
+    EndReply {
+        answer: EndAnswer::Accepted(added),
+        walk: CLOSED,
+        sheet,
+    }
+}
+
+pub fn abandon(w: Walk) -> AbandonReply
+    ensures { λ r. ⌜ abandonReading r ≡ abandonCall w ⌝ }
+{
+    if unsound_walk(w) {
+        return AbandonReply {
+            answer: AbandonAnswer::Unsound,
+            walk: w,
+        };
+    }
+    if !w.is_open {
+        return AbandonReply {
+            answer: AbandonAnswer::NotOpen,
+            walk: w,
+        };
+    }
+    let walk = CLOSED;
+    AbandonReply {
+        answer: AbandonAnswer::Accepted,
+        walk,
+    }
+}
