@@ -1,0 +1,264 @@
+"""Outlines, walks, sheets, cells and centres of document 01, straight from its rules.
+
+Maps and cuts are in moves.py.  Whole numbers only.  Every call answers a refusal
+number first; 0 means that the call was accepted.  A refused call answers zeros
+and changes nothing.
+"""
+from typing import NamedTuple
+
+COORDINATE_LIMIT = 2_000
+LEAST_POINTS = 3
+MOST_POINTS = 1_024
+MOST_OUTLINES = 64
+TOTAL_LIMIT = 10 ** 18
+MOST_RUNS = 4_096
+GRID_SIDE = 1_024
+MOST_CELLS = 1_048_576
+
+ACCEPTED = 0
+
+
+class Totals(NamedTuple):
+    """The six scaled totals, in the order of "The six totals of an outline"."""
+    a2: int
+    x6: int
+    y6: int
+    xx12: int
+    xy24: int
+    yy12: int
+
+
+class CellSums(NamedTuple):
+    """"Cells": number of cells, then the sums of x, y, x², xy, y²."""
+    a: int
+    x: int
+    y: int
+    xx: int
+    xy: int
+    yy: int
+
+
+class Run(NamedTuple):
+    """"Cells": cells of one row, from the first column on."""
+    row: int
+    first: int
+    length: int
+
+
+class Walk(NamedTuple):
+    """"Walk and sheet": the walk that the caller holds."""
+    is_open: bool
+    count: int
+    first: tuple
+    last: tuple
+    totals: Totals
+
+
+class Sheet(NamedTuple):
+    """"Walk and sheet": outlines accepted so far and the sums of their totals."""
+    count: int
+    totals: Totals
+
+
+ZERO_TOTALS = Totals(0, 0, 0, 0, 0, 0)
+ZERO_SUMS = CellSums(0, 0, 0, 0, 0, 0)
+OUTLINE_BOUNDS = Totals(8_192_000_000,
+                        32_768_000_000_000, 32_768_000_000_000,
+                        98_304_000_000_000_000, 196_608_000_000_000_000,
+                        98_304_000_000_000_000)
+CLOSED_WALK = Walk(False, 0, (0, 0), (0, 0), ZERO_TOTALS)
+FRESH_WALK = Walk(True, 0, (0, 0), (0, 0), ZERO_TOTALS)
+NEW_SHEET = Sheet(0, ZERO_TOTALS)
+
+
+# The six totals of an outline
+
+def edge_terms(start, end):
+    """The six edge terms of the edge from (x, y) to (p, q)."""
+    x, y = start
+    p, q = end
+    c = x * q - p * y
+    return Totals(c,
+                  (x + p) * c,
+                  (y + q) * c,
+                  (x * x + x * p + p * p) * c,
+                  (2 * x * y + x * q + p * y + 2 * p * q) * c,
+                  (y * y + y * q + q * q) * c)
+
+
+def added(totals, more):
+    """Each of the six added by itself."""
+    return Totals(*(one + other for one, other in zip(totals, more)))
+
+
+def outline_totals(points):
+    """The edge terms summed over all edges, the closing edge included."""
+    terms = [edge_terms(points[i - 1], points[i]) for i in range(1, len(points))]
+    terms.append(edge_terms(points[-1], points[0]))
+    return Totals(*(sum(column) for column in zip(*terms)))
+
+
+def within_limits(place):
+    """Not turned back by 1."""
+    x, y = place
+    return (-COORDINATE_LIMIT <= x <= COORDINATE_LIMIT
+            and -COORDINATE_LIMIT <= y <= COORDINATE_LIMIT)
+
+
+def list_call(numbers):
+    """A whole outline as one list, x and y in turn: (number, totals).  Order 2, 1."""
+    if len(numbers) % 2 != 0 or not LEAST_POINTS <= len(numbers) // 2 <= MOST_POINTS:
+        return 2, ZERO_TOTALS
+    points = list(zip(numbers[0::2], numbers[1::2]))
+    if not all(within_limits(place) for place in points):
+        return 1, ZERO_TOTALS
+    return ACCEPTED, outline_totals(points)
+
+
+# Walk and sheet
+
+def totals_in_sheet_limits(totals):
+    """Every total from -10^18 to 10^18."""
+    return all(-TOTAL_LIMIT <= total <= TOTAL_LIMIT for total in totals)
+
+
+def walk_is_turned_back(walk):
+    """The walk's half of 28, which looks at an open walk only."""
+    if not walk.is_open:
+        return False
+    if walk.count > MOST_POINTS:
+        return True
+    if walk.count > 0 and not (within_limits(walk.first) and within_limits(walk.last)):
+        return True
+    return any(abs(total) * MOST_POINTS > walk.count * bound
+               for total, bound in zip(walk.totals, OUTLINE_BOUNDS))
+
+
+def sheet_is_turned_back(sheet):
+    """The sheet's half of 28."""
+    return sheet.count > MOST_OUTLINES or not totals_in_sheet_limits(sheet.totals)
+
+
+def begin(walk):
+    """(number, walk afterwards).  Order 28, 22."""
+    if walk_is_turned_back(walk):
+        return 28, walk
+    if walk.is_open:
+        return 22, walk
+    return ACCEPTED, FRESH_WALK
+
+
+def point(walk, place):
+    """(number, walk afterwards).  Order 28, 21, 1, 23."""
+    if walk_is_turned_back(walk):
+        return 28, walk
+    if not walk.is_open:
+        return 21, walk
+    if not within_limits(place):
+        return 1, walk
+    if walk.count >= MOST_POINTS:
+        return 23, walk
+    if walk.count == 0:
+        return ACCEPTED, Walk(True, 1, place, place, walk.totals)
+    totals = added(walk.totals, edge_terms(walk.last, place))
+    return ACCEPTED, Walk(True, walk.count + 1, walk.first, place, totals)
+
+
+def add_to_sheet(sheet, totals):
+    """An outline's totals put on a sheet: (number, sheet afterwards).  Order 25, 26."""
+    if sheet.count >= MOST_OUTLINES:
+        return 25, sheet
+    sums = added(sheet.totals, totals)
+    if not totals_in_sheet_limits(sums):
+        return 26, sheet
+    return ACCEPTED, Sheet(sheet.count + 1, sums)
+
+
+def end(walk, sheet):
+    """(number, totals, walk afterwards, sheet afterwards).  Order 28, 21, 24, 25, 26."""
+    if walk_is_turned_back(walk) or sheet_is_turned_back(sheet):
+        return 28, ZERO_TOTALS, walk, sheet
+    if not walk.is_open:
+        return 21, ZERO_TOTALS, walk, sheet
+    if walk.count < LEAST_POINTS:
+        return 24, ZERO_TOTALS, walk, sheet
+    totals = added(walk.totals, edge_terms(walk.last, walk.first))
+    number, sheet_afterwards = add_to_sheet(sheet, totals)
+    if number != ACCEPTED:
+        return number, ZERO_TOTALS, walk, sheet
+    return ACCEPTED, totals, CLOSED_WALK, sheet_afterwards
+
+
+def abandon(walk):
+    """(number, walk afterwards).  Order 28, 21."""
+    if walk_is_turned_back(walk):
+        return 28, walk
+    if not walk.is_open:
+        return 21, walk
+    return ACCEPTED, CLOSED_WALK
+
+
+# Cells
+
+def lies_after(run, earlier):
+    """A higher row, or the same row and not below the earlier run's end.  Touching is allowed."""
+    return run.row > earlier.row or (
+        run.row == earlier.row and run.first >= earlier.first + earlier.length)
+
+
+def region_sums(runs):
+    """Sums of a cell region, cell by cell: (number, allowed indices, sums).  Order 8, 6, 7.
+
+    With 6 and 7 any run that breaks the rule may be named, so a set of
+    indices is answered.  Otherwise it holds 0 alone.
+    """
+    if len(runs) > MOST_RUNS:
+        return 8, {0}, ZERO_SUMS
+    outside = {index for index, run in enumerate(runs)
+               if run.row > GRID_SIDE - 1 or run.length == 0 or run.first + run.length > GRID_SIDE}
+    if outside:
+        return 6, outside, ZERO_SUMS
+    out_of_order = {index for index in range(1, len(runs))
+                    if not lies_after(runs[index], runs[index - 1])}
+    if out_of_order:
+        return 7, out_of_order, ZERO_SUMS
+    a = sum_x = sum_y = sum_xx = sum_xy = sum_yy = 0
+    for run in runs:
+        y = run.row
+        for x in range(run.first, run.first + run.length):
+            a += 1
+            sum_x += x
+            sum_y += y
+            sum_xx += x * x
+            sum_xy += x * y
+            sum_yy += y * y
+    return ACCEPTED, {0}, CellSums(a, sum_x, sum_y, sum_xx, sum_xy, sum_yy)
+
+
+# Centre
+
+def rounded_half_up(n, d):
+    """The whole number k with 2×k×d − d ≤ 2×n < 2×k×d + d, for d above 0."""
+    k = (2 * n + d) // (2 * d)
+    assert 2 * k * d - d <= 2 * n < 2 * k * d + d
+    return k
+
+
+def centre_of_totals(totals):
+    """Centre of an outline or a sheet: (number, x, y).  Order 11, 27."""
+    if not totals_in_sheet_limits(totals):
+        return 11, 0, 0
+    if totals.a2 == 0:
+        return 27, 0, 0
+    sign = -1 if totals.a2 < 0 else 1
+    d = sign * 3 * totals.a2
+    return ACCEPTED, rounded_half_up(sign * totals.x6, d), rounded_half_up(sign * totals.y6, d)
+
+
+def centre_of_cells(sums):
+    """Centre of a cell region: (number, x, y).  Order 11, 27."""
+    if sums.a > MOST_CELLS or any(total < 0 or total > TOTAL_LIMIT for total in sums):
+        return 11, 0, 0
+    if sums.a == 0:
+        return 27, 0, 0
+    return ACCEPTED, rounded_half_up(sums.x, sums.a), rounded_half_up(sums.y, sums.a)

@@ -1,0 +1,196 @@
+"""Checks of this program by itself: the listing and the ✱ rows of document 01,
+corner cases of its rules, and its laws on made-up outlines.
+
+Runnable; prints what fails and exits 1, else prints how many checks passed.
+"""
+import random
+import sys
+
+import text
+from figures import CLOSED_WALK, FRESH_WALK, NEW_SHEET, OUTLINE_BOUNDS, ZERO_SUMS, ZERO_TOTALS
+from figures import CellSums, Run, Sheet, Totals, Walk
+from figures import abandon, added, begin, centre_of_cells, centre_of_totals, edge_terms, end
+from figures import list_call, outline_totals, point, region_sums, within_limits
+from moves import AffineMap, Cut
+from moves import after_cuts, map_call, moved, started_at, walked_backwards
+from worked import numbers_of, walked
+
+LISTING_INPUT = ("B", "P 2 0", "P 10 4", "P 8 8", "P 0 4", "E",
+                 "B", "P 0 0", "P 2 2", "P 2 0", "P 0 2", "E", "P 1 1")
+LISTING_OUTPUT = ("O 1 4 80 1200 960 14720 21120 8960 5 4",
+                  "O 2 4 0 -8 0 -32 -32 0 - -",
+                  "R 13 21",
+                  "S 2 80 1192 960 14688 21088 8960 5 4")
+RECTANGLE = [(2, 0), (10, 4), (8, 8), (0, 4)]
+FIGURE_EIGHT = [(0, 0), (2, 2), (2, 0), (0, 2)]
+UNIT_SQUARE = [(0, 0), (1, 0), (1, 1), (0, 1)]
+SQUARE_WEST = [(-1, 0), (0, 0), (0, 1), (-1, 1)]
+
+passed = 0
+failed = []
+
+
+def check(label, got, wanted):
+    """Count one comparison."""
+    global passed
+    if got == wanted:
+        passed += 1
+    else:
+        failed.append(f"{label}: got {got}, wanted {wanted}")
+
+
+def with_tabs(shown_lines):
+    """Lines shown with spaces, as bytes with tabs and newlines."""
+    return "".join(line.replace(" ", "\t") + "\n" for line in shown_lines).encode()
+
+
+def check_listing():
+    """"The text program": the listing, with and without its last newline."""
+    data = with_tabs(LISTING_INPUT)
+    check("listing", text.output(data), with_tabs(LISTING_OUTPUT))
+    check("listing without newline", text.output(data[:-1]), with_tabs(LISTING_OUTPUT))
+    check("no input", text.output(b""), with_tabs(["S 0 0 0 0 0 0 0 - -"]))
+    too_long = b"x" * 33_000_001
+    check("one long line", text.output(too_long[:-1]), with_tabs(["R 1 9", "S 0 0 0 0 0 0 0 - -"]))
+    check("one byte more", text.output(too_long), with_tabs(["R 1 10", "S 0 0 0 0 0 0 0 - -"]))
+
+
+def check_starred_rows():
+    """"Plots worked by hand": the rows marked ✱."""
+    check("rectangle", list_call(numbers_of(RECTANGLE)),
+          (0, (80, 1200, 960, 14720, 21120, 8960)))
+    check("rectangle centre", centre_of_totals(outline_totals(RECTANGLE)), (0, 5, 4))
+    check("figure eight", list_call(numbers_of(FIGURE_EIGHT)), (0, (0, -8, 0, -32, -32, 0)))
+    check("figure eight centre", centre_of_totals(outline_totals(FIGURE_EIGHT)), (27, 0, 0))
+    check("unit square", list_call(numbers_of(UNIT_SQUARE)), (0, (2, 3, 3, 4, 6, 4)))
+    check("unit square centre", centre_of_totals(outline_totals(UNIT_SQUARE)), (0, 1, 1))
+    check("square at -1 centre", centre_of_totals(outline_totals(SQUARE_WEST)), (0, 0, 1))
+    shear = AffineMap(a=1, b=1, g=0, h=1, e=1, f=0)
+    check("unit square mapped", map_call(shear, outline_totals(UNIT_SQUARE)),
+          (0, (2, 12, 3, 50, 26, 4)))
+    pieces = after_cuts(RECTANGLE, [Cut(0, RECTANGLE.index((2, 0)), RECTANGLE.index((8, 8)))])
+    totals = [outline_totals(piece) for piece in pieces]
+    check("rectangle cut", [(each.a2, each.x6) for each in totals], [(40, 800), (40, 400)])
+    check("one point three times", list_call([5, 7] * 3), (0, ZERO_TOTALS))
+    check("its centre", centre_of_totals(ZERO_TOTALS), (27, 0, 0))
+    sums = CellSums(3, 9, 9, 29, 27, 27)
+    check("run", region_sums([Run(3, 2, 3)]), (0, {0}, sums))
+    check("run centre", centre_of_cells(sums), (0, 3, 3))
+
+
+def check_walk_corners():
+    """"Walk and sheet" and 28: corner cases."""
+    odd_closed = Walk(False, 7, (0, 0), (0, 0), ZERO_TOTALS._replace(a2=5))
+    full_sheet = Sheet(65, ZERO_TOTALS)
+    check("closed, begin", begin(odd_closed), (0, FRESH_WALK))
+    check("closed, point", point(odd_closed, (2001, 0)), (21, odd_closed))
+    check("closed, abandon", abandon(odd_closed), (21, odd_closed))
+    check("closed, end", end(odd_closed, NEW_SHEET), (21, ZERO_TOTALS, odd_closed, NEW_SHEET))
+    check("bad sheet", end(odd_closed, full_sheet), (28, ZERO_TOTALS, odd_closed, full_sheet))
+    no_points = Walk(True, 0, (99999, -5), (0, 0), ZERO_TOTALS)
+    check("no points, begin", begin(no_points), (22, no_points))
+    check("no points, point", point(no_points, (3, 4)), (0, Walk(True, 1, (3, 4), (3, 4), ZERO_TOTALS)))
+    check("no points, end", end(no_points, NEW_SHEET), (24, ZERO_TOTALS, no_points, NEW_SHEET))
+    check("no points, abandon", abandon(no_points), (0, CLOSED_WALK))
+    bad = no_points._replace(totals=ZERO_TOTALS._replace(a2=1))
+    check("no points with area", abandon(bad), (28, bad))
+    one = Walk(True, 1, (0, 0), (5, 5), ZERO_TOTALS._replace(a2=8_000_000))
+    check("one point", abandon(one), (0, CLOSED_WALK))
+    for total in range(6):
+        most = [0] * 6
+        most[total] = -OUTLINE_BOUNDS[total] // 1024
+        check("28 at its bound", abandon(one._replace(totals=Totals(*most))), (0, CLOSED_WALK))
+        most[total] -= 1
+        over = one._replace(totals=Totals(*most))
+        check("28 over its bound", abandon(over), (28, over))
+    handed_in = Walk(True, 1024, (2000, 2000), (2000, -2000), ZERO_TOTALS._replace(a2=8_192_000_000))
+    check("end over the outline bounds", end(handed_in, NEW_SHEET)[1].a2, 8_200_000_000)
+    check("1,025 points", abandon(handed_in._replace(count=1025))[0], 28)
+    check("open edge by 000", edge_terms((2, 0), (10, 4)).x6, 96)
+
+
+def check_other_corners():
+    """Lists, maps, centres and runs: corner cases."""
+    for length in (0, 5, 7, 2049, 2050):
+        check("list length", list_call([9999] * length), (2, ZERO_TOTALS))
+    check("longest list", list_call([2000] * 2048), (0, ZERO_TOTALS))
+    check("least number", list_call([-2 ** 31] * 6), (1, ZERO_TOTALS))
+    identity = AffineMap(1, 0, 0, 1, 0, 0)
+    check("map 3 before 4", map_call(identity._replace(f=2001), Totals(*[10 ** 18] * 6))[0], 3)
+    check("map 4", map_call(AffineMap(0, 0, 0, 0, 0, 0), ZERO_TOTALS._replace(a2=8_192_000_001))[0], 4)
+    check("map identity", map_call(identity, OUTLINE_BOUNDS), (0, OUTLINE_BOUNDS))
+    check("large centre", centre_of_totals(Totals(1, 10 ** 18, 0, 0, 0, 0)), (0, 333333333333333333, 0))
+    check("11", centre_of_totals(ZERO_TOTALS._replace(yy12=10 ** 18 + 1)), (11, 0, 0))
+    check("reversed square at -1", centre_of_totals(Totals(-2, 3, -3, -4, 3, -4)), (0, 0, 1))
+    check("-3/2 goes up", centre_of_totals(Totals(2, -9, 9, 0, 0, 0)), (0, -1, 2))
+    check("cells 11", centre_of_cells(ZERO_SUMS._replace(xy=-1)), (11, 0, 0))
+    check("cells 27", centre_of_cells(ZERO_SUMS), (27, 0, 0))
+    check("no runs", region_sums([]), (0, {0}, ZERO_SUMS))
+    check("8", region_sums([Run(0, 0, 0)] * 4097), (8, {0}, ZERO_SUMS))
+    check("6 before 7", region_sums([Run(5, 0, 1), Run(4, 0, 1), Run(9, 1024, 1)]), (6, {2}, ZERO_SUMS))
+    check("7", region_sums([Run(5, 0, 3), Run(5, 2, 1), Run(5, 3, 1)]), (7, {1}, ZERO_SUMS))
+    check("touching", region_sums([Run(0, 0, 2), Run(0, 2, 1)])[0], 0)
+
+
+def check_demand_3(rng, outline):
+    """"Cuts, starts and moves" on one outline and a made-up list of cuts."""
+    cuts = [Cut(rng.randrange(4), rng.randrange(len(outline) + 1), rng.randrange(len(outline) + 1))
+            for _ in range(rng.randrange(6))]
+    pieces = after_cuts(outline, cuts)
+    whole = outline_totals(outline)
+    affine = AffineMap(*(rng.randint(-2, 2) for _ in range(4)),
+                       *(rng.randint(-50, 50) for _ in range(2)))
+    forward = backward = under_map = ZERO_TOTALS
+    for piece in pieces:
+        started = started_at(piece, rng.randrange(len(piece)))
+        forward = added(forward, list_call(numbers_of(started))[1])
+        backward = added(backward, list_call(numbers_of(walked_backwards(started)))[1])
+        under_map = added(under_map, list_call(numbers_of(moved(affine, started)))[1])
+    check("cut and started", forward, whole)
+    check("backwards", backward, tuple(-total for total in whole))
+    if all(within_limits(place) for place in moved(affine, outline)):
+        check("moved", (0, under_map), map_call(affine, whole))
+    check("walked", end(walked(outline), NEW_SHEET), (0, whole, CLOSED_WALK, Sheet(1, whole)))
+
+
+def check_text_beside_calls(rng):
+    """The text program beside begin, point, end and abandon on the same made-up lines."""
+    walk, sheet, wanted = CLOSED_WALK, NEW_SHEET, []
+    shown = [rng.choice(["B", "E", "A"] + [f"P {rng.randint(-9, 9)} {rng.choice([-2001, 0, 3, 5])}"] * 6)
+             for _ in range(200)]
+    for line_number, line in enumerate(shown, 1):
+        points = walk.count
+        if line == "B":
+            number, walk = begin(walk)
+        elif line == "A":
+            number, walk = abandon(walk)
+        elif line == "E":
+            number, totals, walk, sheet = end(walk, sheet)
+            if number == 0:
+                centre = centre_of_totals(totals)
+                shown_centre = centre[1:] if centre[0] == 0 else ("-", "-")
+                wanted.append(" ".join(map(str, ("O", sheet.count, points, *totals, *shown_centre))))
+        else:
+            number, walk = point(walk, tuple(int(field) for field in line.split()[1:]))
+        if number != 0:
+            wanted.append(f"R {line_number} {number}")
+    got = text.output(with_tabs(shown)).decode().replace("\t", " ").splitlines()
+    check("text beside calls", got[:-1], wanted)
+    check("last line", got[-1].split()[:8], list(map(str, ("S", sheet.count, *sheet.totals))))
+
+
+if __name__ == "__main__":
+    check_listing()
+    check_starred_rows()
+    check_walk_corners()
+    check_other_corners()
+    made_up = random.Random(1)
+    for _ in range(200):
+        reach = made_up.choice([2, 30, 500, 2000])
+        check_demand_3(made_up, [(made_up.randint(-reach, reach), made_up.randint(-reach, reach))
+                                 for _ in range(made_up.randint(3, 12))])
+        check_text_beside_calls(made_up)
+    for failure in failed:
+        print(failure)
+    print(f"{passed} checks passed, {len(failed)} failed")
+    sys.exit(1 if failed else 0)
