@@ -6,10 +6,13 @@ ghost use Rattle.outline.specs.ListCall.{outside};
 ghost use Rattle.outline.specs.MapCall.{totalLimits};
 ghost use Rattle.outline.specs.WalkCalls.{edgeTotals};
 
+mod lent;
 mod list;
 mod sound;
 mod walk;
 
+pub use lent::point_by;
+pub use lent::point_in;
 use limits::size_exceeds;
 pub use list::OutlineAnswer;
 pub use list::outline_totals;
