@@ -1,4 +1,3 @@
-pub mod Tests
 pub mod Sizes
 pub mod ListSteps
 pub mod SoundWalks

@@ -5,6 +5,7 @@ use mir.Syntax.{w64}
 use mir.Val.{toZ, ofZ}
 use mir.Facts.{toZ-ofZ}
 use borrow.Author.Needs.{needs}
+use Rattle.integers.proofs.Flags.{tells}
 use Rattle.outline.specs.EdgeSums.{exceed, outlineBounds}
 use Rattle.outline.specs.ListCall.{accepted}
 use Rattle.outline.proofs.Limits.{exceed-fit}
@@ -14,10 +15,6 @@ use Rattle.affine.proofs.MappedTotals.{scaled-brackets, by-tests}
 use Rattle.affine.proofs.WithinLimits.{map-within, determinant-small}
 use Rattle.affine.proofs.map_totals.Statement.{statement}
 use Rattle.affine.proofs.map_totals.Tie as tie
-
--- what a branch says of a flag, said of the test that the flag is
-tells : {r a b : Bool} → r ≡ a → r ≡ b → a ≡ b
-tells e f = sym e ∙ f
 
 returns : tie.Need-returns
 returns c =

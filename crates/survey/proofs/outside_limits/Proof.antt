@@ -10,7 +10,7 @@ use Rattle.integers.proofs.Bounds.{Within}
 use Rattle.integers.proofs.SignedCode.{code, fit32, sfits-natAbs, run-fits, runs}
 use Rattle.outline.specs.EdgeSums.{over}
 use Rattle.outline.specs.ListCall.{outside}
-use Rattle.survey.proofs.Tests.{tells}
+use Rattle.integers.proofs.Flags.{tells}
 use Rattle.survey.proofs.outside_limits.Statement.{statement}
 use Rattle.survey.proofs.outside_limits.Tie as tie
 

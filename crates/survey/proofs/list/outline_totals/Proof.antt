@@ -8,7 +8,7 @@ use lib.Seq.{take-append-seam}
 use Rattle.outline.specs.ListCall.{points as pointsOf, misshapen, anyOutside, listCall}
 use Rattle.outline.proofs.IndexLaws.{length-points}
 use Rattle.outline.proofs.Limits.{OutlineList}
-use Rattle.survey.proofs.Tests.{tells}
+use Rattle.integers.proofs.Flags.{tells}
 use Rattle.survey.proofs.ListSteps.{outline-list}
 use Rattle.survey.proofs.list.outline_totals.Statement.{statement}
 use Rattle.survey.proofs.list.outline_totals.Tie as tie

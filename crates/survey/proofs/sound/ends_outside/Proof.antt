@@ -2,7 +2,7 @@
 use mathlib.Core.Path.{sym}
 use borrow.Author.Needs.{needs}
 use borrow.Author.Tests.{eq-eqb, ne-eqb}
-use Rattle.survey.proofs.Tests.{tells}
+use Rattle.integers.proofs.Flags.{tells}
 use Rattle.survey.proofs.sound.ends_outside.Statement.{statement}
 use Rattle.survey.proofs.sound.ends_outside.Tie as tie
 

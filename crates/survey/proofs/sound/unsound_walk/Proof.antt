@@ -4,7 +4,7 @@ use mathlib.Core.Bool.{true}
 use borrow.Author.Needs.{needs}
 use borrow.Author.Tests.{not-true, not-false, lt-ltb, le-ltb}
 use Rattle.outline.specs.WalkCalls.{unsoundWalk}
-use Rattle.survey.proofs.Tests.{tells}
+use Rattle.integers.proofs.Flags.{tells}
 use Rattle.survey.proofs.sound.unsound_walk.Statement.{statement}
 use Rattle.survey.proofs.sound.unsound_walk.Tie as tie
 

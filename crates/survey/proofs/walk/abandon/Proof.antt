@@ -1,7 +1,7 @@
 -- `survey::walk::abandon` meets its contract: the tests stand in the definition's order.
 use borrow.Author.Needs.{needs}
 use Rattle.outline.specs.WalkCalls.{abandonCall}
-use Rattle.survey.proofs.Tests.{tells}
+use Rattle.integers.proofs.Flags.{tells}
 use Rattle.survey.proofs.walk.abandon.Statement.{statement}
 use Rattle.survey.proofs.walk.abandon.Tie as tie
 

@@ -1,7 +1,7 @@
 -- `survey::walk::begin` meets its contract: the tests stand in the definition's order.
 use borrow.Author.Needs.{needs}
 use Rattle.outline.specs.WalkCalls.{beginCall}
-use Rattle.survey.proofs.Tests.{tells}
+use Rattle.integers.proofs.Flags.{tells}
 use Rattle.survey.proofs.walk.begin.Statement.{statement}
 use Rattle.survey.proofs.walk.begin.Tie as tie
 

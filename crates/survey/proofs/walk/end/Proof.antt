@@ -7,7 +7,7 @@ use borrow.Author.Tests.{not-false, lt-ltb, le-ltb, le-leb, lt-leb}
 use Rattle.outline.specs.EdgeSums.{plus, exceed}
 use Rattle.outline.specs.MapCall.{totalLimits}
 use Rattle.outline.specs.WalkCalls.{addedTotals, unsoundWalk, unsoundSheet, endCall}
-use Rattle.survey.proofs.Tests.{tells}
+use Rattle.integers.proofs.Flags.{tells}
 use Rattle.survey.proofs.SoundWalks.{sound-open, closed-within, sheet-within}
 use Rattle.survey.proofs.walk.end.Statement.{statement}
 use Rattle.survey.proofs.walk.end.Tie as tie

@@ -10,7 +10,7 @@ use mir.Facts.{toZ-ofZ}
 use Rattle.outline.specs.declared.Position.{Position}
 use Rattle.outline.specs.ListCall.{outside}
 use Rattle.outline.specs.WalkCalls.{WalkOutcome, unsoundWalk, pointCall}
-use Rattle.survey.proofs.Tests.{tells}
+use Rattle.integers.proofs.Flags.{tells}
 use Rattle.survey.proofs.walk.point.Statement.{statement}
 use Rattle.survey.proofs.walk.point.Tie as tie
 

@@ -1,0 +1,170 @@
+-- What a scan stands for: after each run its answer is the one that the call promises for the runs read so far.
+use mathlib.Core.Path.{_≡_, refl, sym, _∙_, ap}
+use mathlib.Core.Bool.{Bool, true, false, not, _&&_, _||_, cond, or-assoc, or-false, false≢true}
+use mathlib.Core.List.{List, [], _∷_, _++_, append-assoc, append-nil}
+use Prim.Native.Nat.{ℕ, zero, suc, _+_, _-_, _<_, _≤_, _^_}
+use native.Mathlib.Omega.{arith}
+use lib.Dec.{leb, ltb, eqb, leb·zero}
+use lib.ListN.{length, length-append, List·getD-append}
+use lib.Seq.{getD-append-seam}
+use borrow.Author.Tests.{lt-ltb, le-ltb}
+use Rattle.cells.specs.declared.Run.{Run}
+use Rattle.cells.specs.declared.Scan.{Scan}
+use Rattle.cells.specs.declared.RegionAnswer.{RegionAnswer}
+use Rattle.cells.specs.declared.RegionAnswer.the-variants.{Sums, BadRun, OutOfOrder, TooManyRuns}
+use Rattle.cells.specs.CellSums.{cellsOf, allCells, plus, sumsOver, regionSums}
+use Rattle.cells.specs.RegionCall.{emptyRun, badRun, anyBad, liesAfter, disordered, tooMany, regionCall, reading, runAt, BreaksSix, BreaksSeven, Answers}
+use Rattle.cells.specs.Scan.{noRuns, answerWith, addRun, SumsWithin, HasRoom}
+use Rattle.cells.proofs.SumLaws.{widen, zeros-within, sums-append, all-within}
+
+-- ---- one run more at the end of a list
+
+-- The last run, or the empty one at row 0, column 0, after which every run lies.
+abbrev pub lastOf : List Run → Run
+lastOf [] = emptyRun
+lastOf (r ∷ []) = r
+lastOf (p ∷ r ∷ rs) = lastOf (r ∷ rs)
+
+last-at : (p : Run) (rs : List Run) → runAt (p ∷ rs) (length rs) ≡ lastOf (p ∷ rs)
+last-at p [] = refl
+last-at p (r ∷ rs) = last-at r rs
+
+last-snoc : (rs : List Run) (r : Run) → lastOf (rs ++ r ∷ []) ≡ r
+last-snoc [] r = refl
+last-snoc (p ∷ []) r = refl
+last-snoc (p ∷ q ∷ rs) r = last-snoc (q ∷ rs) r
+
+bad-snoc : (rs : List Run) (r : Run) → anyBad (rs ++ r ∷ []) ≡ anyBad rs || badRun r
+unfolding anyBad
+bad-snoc [] r = or-false (badRun r)
+bad-snoc (p ∷ rs) r = ap (λ b. badRun p || b) (bad-snoc rs r) ∙ sym (or-assoc (badRun p) (anyBad rs) (badRun r))
+
+after-none : (r : Run) → liesAfter (lastOf []) r ≡ true
+unfolding liesAfter
+after-none r = go (r .row)
+  where
+    go : (n : ℕ) → ltb 0 n || eqb 0 n && leb (0 + 0) (r .first) ≡ true
+    go zero = leb·zero (r .first)
+    go (suc n) = rw (lt-ltb 0 (suc n) (omega arith))
+
+order-snoc : (rs : List Run) (r : Run) → disordered (rs ++ r ∷ []) ≡ disordered rs || not (liesAfter (lastOf rs) r)
+unfolding disordered
+order-snoc [] r = rw (after-none r)
+order-snoc (p ∷ []) r = or-false (not (liesAfter p r))
+order-snoc (p ∷ q ∷ rs) r = ap (λ b. not (liesAfter p q) || b) (order-snoc (q ∷ rs) r) ∙ sym (or-assoc (not (liesAfter p q)) (disordered (q ∷ rs)) (not (liesAfter (lastOf (q ∷ rs)) r)))
+
+cells-snoc : (rs : List Run) (r : Run) → allCells (rs ++ r ∷ []) ≡ allCells rs ++ cellsOf r
+unfolding allCells
+cells-snoc [] r = append-nil (cellsOf r)
+cells-snoc (p ∷ rs) r = ap (λ l. cellsOf p ++ l) (cells-snoc rs r) ∙ sym (append-assoc (cellsOf p) (allCells rs) (cellsOf r))
+
+length-snoc : (rs : List Run) (r : Run) → length (rs ++ r ∷ []) ≡ length rs + 1
+length-snoc rs r = length-append rs (r ∷ [])
+
+-- ---- what an answer says of the runs read so far
+
+abbrev pub Decided : List Run → RegionAnswer → Type 0
+Decided rs (Sums t) = (anyBad rs ≡ false) × ((disordered rs ≡ false) × (t ≡ regionSums rs))
+Decided rs (BadRun i) = (anyBad rs ≡ true) × BreaksSix rs i
+Decided rs (OutOfOrder i) = (anyBad rs ≡ false) × ((disordered rs ≡ true) × BreaksSeven rs i)
+Decided rs TooManyRuns = ⊥
+
+module _ (rs : List Run) (r : Run) where
+  abbrev more : List Run
+  more = rs ++ r ∷ []
+
+  six-stays : {i : ℕ} → BreaksSix rs i → BreaksSix more i
+  six-stays {i} h = record { present = omega (arith, length-snoc rs r, h .present); breaks = ap badRun (List·getD-append rs (r ∷ []) _ i (h .present)) ∙ h .breaks }
+
+  six-here : badRun r ≡ true → BreaksSix more (length rs)
+  six-here e = record { present = omega (arith, length-snoc rs r); breaks = ap badRun (getD-append-seam rs r [] _) ∙ e }
+
+  seven-stays : {i : ℕ} → BreaksSeven rs i → BreaksSeven more i
+  seven-stays {i} h =
+      record {
+        later = h .later;
+        present = omega (arith, length-snoc rs r, h .present);
+        breaks = rw (List·getD-append rs (r ∷ []) _ (i - 1) (omega (arith, h .present)), List·getD-append rs (r ∷ []) _ i (h .present)) (h .breaks);
+      }
+
+seven-here : (rs : List Run) (r : Run) → liesAfter (lastOf rs) r ≡ false → BreaksSeven (rs ++ r ∷ []) (length rs)
+seven-here [] r e = absurd (false≢true (sym e ∙ after-none r))
+seven-here (p ∷ qs) r e =
+    let n : suc (length qs) - 1 ≡ length qs = omega arith in
+    record {
+      later = omega arith;
+      present = omega (arith, length-snoc (p ∷ qs) r);
+      breaks = rw (n, List·getD-append (p ∷ qs) (r ∷ []) _ (length qs) (omega arith), last-at p qs, getD-append-seam (p ∷ qs) r [] _) e;
+    }
+
+-- One run more.
+decided-next : (rs : List Run) (r : Run) (a : RegionAnswer) → Decided rs a → Decided (rs ++ r ∷ []) (answerWith a (length rs) (lastOf rs) r)
+unfolding answerWith
+decided-next rs r (Sums t) (b, (o, e)) = go (badRun r) refl (liesAfter (lastOf rs) r) refl
+  where
+    go : (x : Bool) → badRun r ≡ x → (y : Bool) → liesAfter (lastOf rs) r ≡ y
+        → Decided (rs ++ r ∷ []) (cond x (BadRun (length rs)) (cond (not y) (OutOfOrder (length rs)) (Sums (plus t (sumsOver (cellsOf r))))))
+    go true p y q = (rw (bad-snoc rs r, b, p), six-here rs r p)
+    go false p false q = (rw (bad-snoc rs r, b, p), (rw (order-snoc rs r, o, q), seven-here rs r q))
+    go false p true q = (rw (bad-snoc rs r, b, p), (rw (order-snoc rs r, o, q), rw (cells-snoc rs r, sums-append, e)))
+decided-next rs r (BadRun i) (b, h) = (rw (bad-snoc rs r, b), six-stays rs r h)
+decided-next rs r (OutOfOrder i) (b, (o, h)) = go (badRun r) refl
+  where
+    go : (x : Bool) → badRun r ≡ x → Decided (rs ++ r ∷ []) (cond x (BadRun (length rs)) (OutOfOrder i))
+    go true p = (rw (bad-snoc rs r, b, p), six-here rs r p)
+    go false p = (rw (bad-snoc rs r, b, p), (rw (order-snoc rs r, o), seven-stays rs r h))
+decided-next rs r TooManyRuns d = d
+
+-- ---- a scan of runs
+
+pub record Stands (rs : List Run) (s : Scan) : Type 0 where
+  pub count : s .count ≡ length rs
+  pub last : s .last ≡ lastOf rs
+  pub answer : Decided rs (s .answer)
+
+pub at-start : Stands [] noRuns
+unfolding anyBad disordered sumsOver allCells
+at-start = record { count = refl; last = refl; answer = (refl, (refl, refl)) }
+
+pub one-more : (rs : List Run) (r : Run) {s : Scan} → Stands rs s → Stands (rs ++ r ∷ []) (addRun s r)
+one-more rs r {s} h =
+    record {
+      count = ap (λ n. n + 1) (h .count) ∙ sym (length-snoc rs r);
+      last = sym (last-snoc rs r);
+      answer = rw (h .count, h .last) (decided-next rs r (s .answer) (h .answer));
+    }
+
+-- There is room for another run.
+pub room : (rs : List Run) {s : Scan} → Stands rs s → length rs < 4096 → HasRoom s
+unfolding reading
+room rs {s} h l = record { runs = omega (arith, h .count); sums = go (s .answer) (h .answer) }
+  where
+    go : (a : RegionAnswer) → Decided rs a → SumsWithin (2 ^ 42) (reading a .sums)
+    go (Sums t) (b, (o, e)) = rw e (widen (omega arith) (all-within rs b))
+    go (BadRun i) d = zeros-within (2 ^ 42)
+    go (OutOfOrder i) d = zeros-within (2 ^ 42)
+    go TooManyRuns d = zeros-within (2 ^ 42)
+
+-- ---- the call's promise
+
+few : (rs : List Run) → length rs ≤ 4096 → tooMany rs ≡ false
+unfolding tooMany
+few rs l = le-ltb _ (length rs) (omega arith)
+
+many : (rs : List Run) → 4096 < length rs → tooMany rs ≡ true
+unfolding tooMany
+many rs l = lt-ltb _ (length rs) (omega arith)
+
+pub answered : (rs : List Run) {s : Scan} → Stands rs s → length rs ≤ 4096 → Answers rs (s .answer)
+unfolding reading regionCall
+answered rs {s} h l = go (s .answer) (h .answer)
+  where
+    go : (a : RegionAnswer) → Decided rs a → Answers rs a
+    go (Sums t) (b, (o, e)) = record { outcome = rw (few rs l, b, o, e); six = λ z. absurd (omega arith); seven = λ z. absurd (omega arith) }
+    go (BadRun i) (b, k) = record { outcome = rw (few rs l, b); six = λ z. k; seven = λ z. absurd (omega arith) }
+    go (OutOfOrder i) (b, (o, k)) = record { outcome = rw (few rs l, b, o); six = λ z. absurd (omega arith); seven = λ z. k }
+    go TooManyRuns d = absurd d
+
+pub too-many : (rs : List Run) → 4096 < length rs → Answers rs TooManyRuns
+unfolding reading regionCall
+too-many rs l = record { outcome = rw (many rs l); six = λ z. absurd (omega arith); seven = λ z. absurd (omega arith) }

@@ -1,0 +1,92 @@
+-- Accepted runs list no cell twice: their cells ascend by row and, in a row, by column.
+use mathlib.Core.Path.{_≡_, refl, sym, subst}
+use mathlib.Core.Bool.{Bool, true, false, not, _||_, _&&_, cond, false≢true}
+use mathlib.Core.List.{List, [], _∷_, _++_}
+use mathlib.Core.Logic.{_⊎_, inl, inr}
+use Prim.Native.Nat.{ℕ, zero, suc, _+_, _<_, _≤_}
+use native.Mathlib.Nat.{add-zero}
+use native.Mathlib.Omega.{arith}
+use lib.Dec.{leb, ltb, eqb}
+use lib.ListN.{length, getD}
+use borrow.Author.Tests.{ltb-true, leb-true, eqb-true, not-false}
+use Rattle.centroid.specs.declared.CellSums.{CellSums}
+use Rattle.cells.specs.declared.Run.{Run}
+use Rattle.cells.specs.CellSums.{Cell, origin, cellsFrom, cellsOf, allCells, EachOnce}
+use Rattle.cells.specs.RegionCall.{refused, anyBad, liesAfter, disordered, tooMany, regionCall}
+use Rattle.integers.proofs.Flags.{both-failed}
+
+-- Column v of row u is not before column x of row y.
+abbrev NotBefore : (y x u v : ℕ) → Type 0
+NotBefore y x u v = (y < u) ⊎ ((y ≡ u) × (x ≤ v))
+
+-- The cells ascend, from column x of row y on.
+abbrev Ascend : (y x : ℕ) → List Cell → Type 0
+Ascend y x [] = Unit {0}
+Ascend y x (c ∷ cs) = NotBefore y x (c .y) (c .x) × Ascend (c .y) (suc (c .x)) cs
+
+chain : {y x u v s t : ℕ} → NotBefore y x u v → NotBefore u v s t → NotBefore y x s t
+chain (inl h) (inl k) = inl (omega arith)
+chain (inl h) (inr k) = inl (omega arith)
+chain (inr h) (inl k) = inl (omega arith)
+chain (inr h) (inr k) = inr (omega arith)
+
+sooner : {y x u v : ℕ} (cs : List Cell) → NotBefore y x u v → Ascend u v cs → Ascend y x cs
+sooner [] h a = tt
+sooner (c ∷ cs) h (k, a) = (chain h k, a)
+
+all-after : {y x : ℕ} (cs : List Cell) → Ascend y x cs → (j : ℕ) → j < length cs → NotBefore y x (getD cs j origin .y) (getD cs j origin .x)
+all-after [] a j l = absurd (omega arith)
+all-after (c ∷ cs) (h, a) zero l = h
+all-after (c ∷ cs) (h, a) (suc j) l = chain h (chain (inr (refl, omega arith)) (all-after cs a j (omega arith)))
+
+-- No cell comes after itself.
+irreflexive : (y x : ℕ) → NotBefore y (suc x) y x → ⊥
+irreflexive y x (inl h) = omega arith
+irreflexive y x (inr h) = omega arith
+
+once : (y x : ℕ) (cs : List Cell) → Ascend y x cs → EachOnce cs
+once y x [] a i j h l e = omega arith
+once y x (c ∷ cs) (h, a) i zero k l e = omega arith
+once y x (c ∷ cs) (h, a) zero (suc j) k l e = irreflexive (c .y) (c .x) (subst (λ (d : Cell). NotBefore (c .y) (suc (c .x)) (d .y) (d .x)) (sym e) (all-after cs a j (omega arith)))
+once y x (c ∷ cs) (h, a) (suc i) (suc j) k l e = once (c .y) (suc (c .x)) cs a i j (omega arith) (omega arith) e
+
+-- A row's cells, and then others that ascend from where they end.
+run-ascends : (y x n : ℕ) (cs : List Cell) → Ascend y (x + n) cs → Ascend y x (cellsFrom y x n ++ cs)
+unfolding cellsFrom
+run-ascends y x zero cs a = rw add-zero at a
+run-ascends y x (suc n) cs a = (inr (refl, omega arith), run-ascends y (suc x) n cs (let e : suc x + n ≡ x + suc n = omega arith in rw e a))
+
+after-is : (p r : Run) → liesAfter p r ≡ true → NotBefore (p .row) (p .first + p .length) (r .row) (r .first)
+unfolding liesAfter
+after-is p r e =
+    go (ltb (p .row) (r .row)) (eqb (p .row) (r .row)) (leb (p .first + p .length) (r .first)) (ltb-true (p .row) (r .row)) (eqb-true (p .row) (r .row)) (leb-true (p .first + p .length) (r .first)) e
+  where
+    go : (a b c : Bool) → (a ≡ true → p .row < r .row) → (b ≡ true → p .row ≡ r .row) → (c ≡ true → p .first + p .length ≤ r .first) → (a || b && c) ≡ true
+        → NotBefore (p .row) (p .first + p .length) (r .row) (r .first)
+    go true b c f g h e = inl (f refl)
+    go false true true f g h e = inr (g refl, h refl)
+    go false true false f g h e = absurd (false≢true e)
+    go false false c f g h e = absurd (false≢true e)
+
+-- The cells of runs each of which lies after the one before.
+ascending : (r : Run) (rs : List Run) → disordered (r ∷ rs) ≡ false → Ascend (r .row) (r .first) (allCells (r ∷ rs))
+unfolding disordered allCells cellsOf
+ascending r [] e = run-ascends (r .row) (r .first) (r .length) [] tt
+ascending r (q ∷ qs) e =
+    let (f, g) = both-failed (not (liesAfter r q)) (disordered (q ∷ qs)) e in
+    run-ascends (r .row) (r .first) (r .length) (allCells (q ∷ qs)) (sooner (allCells (q ∷ qs)) (after-is r q (not-false (liesAfter r q) f)) (ascending q qs g))
+
+in-order : (rs : List Run) (i : ℕ) → regionCall rs i .number ≡ 0 → disordered rs ≡ false
+unfolding regionCall
+in-order rs i e = go (tooMany rs) (anyBad rs) (disordered rs) _ e
+  where
+    go : (a b c : Bool) (s : CellSums) → (cond a (refused 8 0) (cond b (refused 6 i) (cond c (refused 7 i) (record { number = 0; index = 0; sums = s })))) .number ≡ 0 → c ≡ false
+    go true b c s e = absurd (omega arith)
+    go false true c s e = absurd (omega arith)
+    go false false true s e = absurd (omega arith)
+    go false false false s e = refl
+
+pub each-cell-once : (rs : List Run) (i : ℕ) → regionCall rs i .number ≡ 0 → EachOnce (allCells rs)
+unfolding allCells
+each-cell-once [] i e = once 0 0 [] tt
+each-cell-once (r ∷ rs) i e = once (r .row) (r .first) (allCells (r ∷ rs)) (ascending r rs (in-order (r ∷ rs) i e))

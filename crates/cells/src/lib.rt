@@ -1,0 +1,211 @@
+// Document 01, "Cells": the sums of a region whose runs lie in the caller's own list. Time goes by the number of runs, not of cells.
+ghost use mathlib.Core.Path.{_≡_};
+ghost use mathlib.Core.Bool.{not};
+ghost use Prim.Native.Nat.{_≤_, _^_, min};
+ghost use lib.IntN.{pos};
+ghost use lib.ListN.{take};
+ghost use Rattle.cells.specs.CellSums.{plus, sumsOver, cellsOf, indexSum, squareSum};
+ghost use Rattle.cells.specs.RegionCall.{badRun, liesAfter, Answers};
+ghost use Rattle.cells.specs.Scan.{noRuns, answerWith, addRun, InGrid, SumsWithin, HasRoom};
+
+// As many cells of a row as `length`, from the column `first` on.
+pub struct Run {
+    pub row: u32,
+    pub first: u32,
+    pub length: u32,
+}
+
+// The sums of a region, or why it has none: refusal 6 or 7 with the index of a run that breaks it, or 8.
+pub enum RegionAnswer {
+    Sums(centroid::CellSums),
+    BadRun(usize),
+    OutOfOrder(usize),
+    TooManyRuns,
+}
+
+// What the runs read so far give: their number, the last of them, and the answer if there are no more.
+struct Scan {
+    count: usize,
+    last: Run,
+    answer: RegionAnswer,
+}
+
+// Refusal 6. The sum of two 32-bit numbers cannot wrap at 64 bits.
+fn bad_run(run: Run) -> bool
+    ensures { λ r. ⌜ r ≡ badRun run ⌝ }
+{
+    if 1023 < run.row {
+        return true;
+    }
+    if run.length == 0 {
+        return true;
+    }
+    1024 < run.first as u64 + run.length as u64
+}
+
+// Refusal 7, of a run and the one before it.
+fn out_of_order(earlier: Run, run: Run) -> bool
+    ensures { λ r. ⌜ r ≡ not (liesAfter earlier run) ⌝ }
+{
+    if earlier.row < run.row {
+        return false;
+    }
+    if run.row < earlier.row {
+        return true;
+    }
+    (run.first as u64) < earlier.first as u64 + earlier.length as u64
+}
+
+// 0 + 1 + .. + (k - 1).
+fn index_sum(k: u32) -> i64
+    requires { ⌜ k ≤ 1024 ⌝ }
+    ensures { λ r. ⌜ r ≡ pos (indexSum k) ⌝ }
+{
+    let n = k as i64;
+    n * (n - 1) / 2
+}
+
+// 0² + 1² + .. + (k - 1)².
+fn square_sum(k: u32) -> i64
+    requires { ⌜ k ≤ 1024 ⌝ }
+    ensures { λ r. ⌜ r ≡ pos (squareSum k) ⌝ }
+{
+    let n = k as i64;
+    n * (n - 1) * (2 * n - 1) / 6
+}
+
+// The sums of one run: those of x and x² are differences of the sums below its ends.
+fn run_sums(run: Run) -> centroid::CellSums
+    requires { ⌜ InGrid run ⌝ }
+    ensures { λ r. ⌜ r ≡ sumsOver (cellsOf run) ⌝ }
+{
+    let end = run.first + run.length;
+    let n = run.length as i64;
+    let y = run.row as i64;
+    let x = index_sum(end) - index_sum(run.first);
+    let xx = square_sum(end) - square_sum(run.first);
+    centroid::CellSums {
+        count: n,
+        x,
+        y: n * y,
+        xx,
+        xy: x * y,
+        yy: n * y * y,
+    }
+}
+
+// The bounds are those of 4,096 runs and of one run.
+fn add_sums(s: centroid::CellSums, t: centroid::CellSums) -> centroid::CellSums
+    requires { ⌜ SumsWithin (2 ^ 42) s ⌝ }
+    requires { ⌜ SumsWithin (2 ^ 30) t ⌝ }
+    ensures { λ r. ⌜ r ≡ plus s t ⌝ }
+{
+    centroid::CellSums {
+        count: s.count + t.count,
+        x: s.x + t.x,
+        y: s.y + t.y,
+        xx: s.xx + t.xx,
+        xy: s.xy + t.xy,
+        yy: s.yy + t.yy,
+    }
+}
+
+// Before the first run. Every run lies after an empty one at row 0, column 0, so the first needs no test of its own.
+fn no_runs() -> Scan
+    ensures { λ r. ⌜ r ≡ noRuns ⌝ }
+{
+    let last = Run {
+        row: 0,
+        first: 0,
+        length: 0,
+    };
+    let sums = centroid::CellSums {
+        count: 0,
+        x: 0,
+        y: 0,
+        xx: 0,
+        xy: 0,
+        yy: 0,
+    };
+    Scan {
+        count: 0,
+        last,
+        answer: RegionAnswer::Sums(sums),
+    }
+}
+
+// The answer with one run more.
+fn next_answer(scan: Scan, run: Run) -> RegionAnswer
+    requires { ⌜ HasRoom scan ⌝ }
+    ensures { λ r. ⌜ r ≡ answerWith (scan .answer) (scan .count) (scan .last) run ⌝ }
+{
+    let answer = scan.answer;
+    let last = scan.last;
+    match answer {
+        RegionAnswer::Sums(sums) => {
+            if bad_run(run) {
+                return RegionAnswer::BadRun(scan.count);
+            }
+            if out_of_order(last, run) {
+                return RegionAnswer::OutOfOrder(scan.count);
+            }
+            let more = run_sums(run);
+            RegionAnswer::Sums(add_sums(sums, more))
+        }
+        RegionAnswer::OutOfOrder(index) => {
+            if bad_run(run) {
+                return RegionAnswer::BadRun(scan.count);
+            }
+            RegionAnswer::OutOfOrder(index)
+        }
+        RegionAnswer::BadRun(index) => RegionAnswer::BadRun(index),
+        RegionAnswer::TooManyRuns => RegionAnswer::TooManyRuns,
+    }
+}
+
+fn add_run(scan: Scan, run: Run) -> Scan
+    requires { ⌜ HasRoom scan ⌝ }
+    ensures { λ r. ⌜ r ≡ addRun scan run ⌝ }
+{
+    let answer = next_answer(scan, run);
+    Scan {
+        count: scan.count + 1,
+        last: run,
+        answer,
+    }
+}
+
+// The six sums of the region that the runs make up, or why it has none.
+pub fn region_sums(runs: &[Run]) -> RegionAnswer
+    ensures { λ r. ⌜ Answers (now (runs .entry)) r ⌝ }
+{
+    if 4096 < runs.len() {
+        return RegionAnswer::TooManyRuns;
+    }
+    let mut scan = no_runs();
+    let mut i = 0;
+    while i < runs.len() {
+        scan = add_run(scan, runs[i]);
+        i = i + 1;
+    }
+    scan.answer
+}
+
+// `count`, but no more than the 4,097 runs of an array.
+fn within_array(count: usize) -> usize
+    ensures { λ r. ⌜ r ≡ min count 4097 ⌝ }
+{
+    if 4097 < count {
+        return 4097;
+    }
+    count
+}
+
+// `region_sums` of the first `count` runs of an array, or of all of them if `count` is larger, for callers that hold their runs by value.
+// The array has room for one run more than is allowed.
+pub fn region_sums_of(runs: [Run; 4097], count: usize) -> RegionAnswer
+    ensures { λ r. ⌜ Answers (take count runs) r ⌝ }
+{
+    let n = within_array(count);
+    region_sums(&runs[..n])
+}
