@@ -6,8 +6,7 @@ use Rattle.outline.specs.declared.Totals.{Totals}
 use Rattle.outline.specs.declared.AffineMap.{AffineMap}
 use Rattle.outline.specs.EdgeSums.{exceed, outlineBounds}
 use Rattle.outline.specs.ListCall.{accepted, refused}
-use Rattle.outline.specs.MapCall.{disallowed, determinant, mapped, totalLimits, mapCall}
-use Rattle.affine.specs.Brackets.{brackets, scaled}
+use Rattle.outline.specs.MapCall.{disallowed, determinant, brackets, scaled, mapped, totalLimits, mapCall}
 
 module _ (m : AffineMap) (t : Totals) where
   pub scaled-brackets : {d : ℤ} {s : Totals} → d ≡ determinant m → s ≡ brackets m t → scaled d s ≡ mapped m t

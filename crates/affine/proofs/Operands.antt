@@ -6,8 +6,7 @@ use Rattle.integers.proofs.Ring.{here, there}
 use Rattle.integers.proofs.Bounds.{Within}
 use Rattle.integers.proofs.SignedCode.{back64, times, plus, lit-pos, var}
 use Rattle.outline.specs.declared.Totals.{Totals}
-use Rattle.outline.specs.EdgeSums.{outlineBounds}
-use Rattle.outline.proofs.Limits.{Fit}
+use Rattle.outline.specs.EdgeSums.{Fit, outlineBounds}
 
 abbrev pub totals : Totals → List ℤ
 totals t = t .a2 ∷ t .x6 ∷ t .y6 ∷ t .xx12 ∷ t .xy24 ∷ t .yy12 ∷ []

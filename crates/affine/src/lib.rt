@@ -2,11 +2,9 @@
 ghost use mathlib.Core.Path.{_≡_};
 ghost use Prim.Native.Nat.{_≤_, _^_};
 ghost use lib.IntN.{natAbs, _*ℤ_};
-ghost use Rattle.outline.specs.EdgeSums.{over, exceed, outlineBounds};
-ghost use Rattle.outline.specs.MapCall.{disallowed, determinant, totalLimits, mapCall};
+ghost use Rattle.outline.specs.EdgeSums.{over, exceed, Fit, outlineBounds};
+ghost use Rattle.outline.specs.MapCall.{disallowed, determinant, firstMoment, secondMoment, mixedMoment, brackets, scaled, totalLimits, mapCall};
 ghost use Rattle.affine.specs.Answer.{reading};
-ghost use Rattle.affine.specs.Brackets.{firstMoment, secondMoment, mixedMoment, brackets, scaled};
-ghost use Rattle.outline.proofs.Limits.{Fit};
 ghost use Rattle.affine.specs.Limits.{RowWithin, MapWithin};
 use limits::size_exceeds;
 
@@ -33,7 +31,7 @@ fn map_outside_limits(m: outline::AffineMap) -> bool
         | size_exceeds(m.f as i64, 2000)
 }
 
-fn determinant(m: outline::AffineMap) -> i64
+fn map_determinant(m: outline::AffineMap) -> i64
     requires { ⌜ MapWithin m ⌝ }
     ensures { λ r. ⌜ r ≡ determinant m ⌝ }
 {
@@ -71,7 +69,7 @@ fn mixed_moment(a: i64, b: i64, e: i64, g: i64, h: i64, f: i64, t: outline::Tota
 }
 
 // What stands behind d in each of the six formulas.
-fn brackets(m: outline::AffineMap, t: outline::Totals) -> outline::Totals
+fn bracket_totals(m: outline::AffineMap, t: outline::Totals) -> outline::Totals
     requires { ⌜ MapWithin m ⌝ }
     requires { ⌜ Fit outlineBounds t ⌝ }
     ensures { λ r. ⌜ r ≡ brackets m t ⌝ }
@@ -119,7 +117,7 @@ fn result_outside_limits(d: i64, s: outline::Totals) -> bool
         | product_over(d, s.yy12)
 }
 
-fn scaled(d: i64, s: outline::Totals) -> outline::Totals
+fn scale(d: i64, s: outline::Totals) -> outline::Totals
     requires { ⌜ Fit totalLimits (scaled d s) ⌝ }
     ensures { λ r. ⌜ r ≡ scaled d s ⌝ }
 {
@@ -143,10 +141,10 @@ pub fn map_totals(m: outline::AffineMap, t: outline::Totals) -> MapAnswer
     if limits::outside_bounds(t) {
         return MapAnswer::TotalsOutsideBounds;
     }
-    let d = determinant(m);
-    let s = brackets(m, t);
+    let d = map_determinant(m);
+    let s = bracket_totals(m, t);
     if result_outside_limits(d, s) {
         return MapAnswer::ResultOutsideLimits;
     }
-    MapAnswer::Mapped(scaled(d, s))
+    MapAnswer::Mapped(scale(d, s))
 }

@@ -10,7 +10,7 @@ use lib.Seq.{lt-length-set, getD-set-same, getD-set-other, getD-at}
 use lib.IntN.{pos}
 use Rattle.outline.specs.declared.Position.{Position}
 use Rattle.outline.specs.EdgeSums.{openEdges, edges, sumOver, over}
-use Rattle.outline.specs.ListCall.{points, numbers, outside, anyOutside, misshapen, listCall}
+use Rattle.outline.specs.ListCall.{points, numbers, outside, anyOutside, wrongLength, listCall}
 use Rattle.outline.specs.Pieces.{Piece, Cut, neighbours, canCut, kept, others, cutOnce, cutAll, piecesOf, totalsOf}
 use Rattle.outline.proofs.CutTest.{made}
 
@@ -18,9 +18,9 @@ use Rattle.outline.proofs.CutTest.{made}
 pub record TwoPieces (pieces : List Piece) (c : Cut) (left : List Piece) : Type 0 where
   -- One piece more than before.
   pub number : length left ≡ suc (length pieces)
-  -- The old piece keeps its points from the lower position to the higher,
+  -- The part between the cut points has the place of the piece that was cut,
   pub old : getD left (c .piece) [] ≡ kept c (getD pieces (c .piece) [])
-  -- the others with both cut points are the next piece,
+  -- the other part comes after all pieces,
   pub next : getD left (length pieces) [] ≡ others c (getD pieces (c .piece) [])
   -- and every other piece is as it was.
   pub same : (k : ℕ) → k < length pieces → k ≢ c .piece → getD left k [] ≡ getD pieces k []
@@ -51,5 +51,5 @@ abbrev rectangleParts : List Piece
 rectangleParts = piecesOf rectangle (record { piece = 0; one = 3; other = 0 } ∷ record { piece = 1; one = 0; other = 2 } ∷ record { piece = 0; one = 2; other = 0 } ∷ [])
 
 pub rectangle-cut : (map (λ p. totalsOf p .a2) rectangleParts ≡ pos 40 ∷ pos 40 ∷ []) × (map (λ p. totalsOf p .x6) rectangleParts ≡ pos 800 ∷ pos 400 ∷ [])
-unfolding openEdges edges sumOver over points numbers outside anyOutside misshapen listCall neighbours canCut cutOnce cutAll
+unfolding openEdges edges sumOver over points numbers outside anyOutside wrongLength listCall neighbours canCut cutOnce cutAll
 rectangle-cut = (refl, refl)

@@ -16,11 +16,11 @@ use Rattle.outline.specs.EdgeSums.{plus, openEdges, sumOver, outlineTota
 use Rattle.outline.specs.ListCall.{accepted, points, listCall}
 use Rattle.outline.specs.MapCall.{totalLimits}
 use Rattle.outline.specs.WalkCalls.{closed, newSheet, sheetWith, unsoundSheet, EndOutcome, beginCall, pointCall, endCall}
-use Rattle.outline.specs.CallLists.{Call, begin, point, end, numberOf, walkAfter, pointsWith, next, after, from}
+use Rattle.outline.specs.CallLists.{Call, begin, point, end, numberOf, walkAfter, pointsWith, next, after, from, walkOf}
 use Rattle.outline.proofs.Every.{All, all-append}
 use Rattle.outline.proofs.TotalsLaws.{zeros-plus}
 use Rattle.outline.proofs.Limits.{Inside, not-outside, Outline, accepts-only-outlines, fit-exceed, limits-fit, accepted-fit}
-use Rattle.outline.proofs.WalkOf.{walkOf, extended-is, closed-is, sound-walk, sound-closed}
+use Rattle.outline.proofs.WalkOf.{extended-is, closed-is, sound-walk, sound-closed}
 use Rattle.outline.proofs.WalkedOutline.{traceOf}
 
 -- The numbers that a list of calls answers, each call given the walk that the last one left.

@@ -16,8 +16,8 @@ use Rattle.integers.proofs.Bounds.{bound, within}
 use Rattle.outline.specs.declared.Position.{Position}
 use Rattle.outline.specs.declared.Totals.{Totals}
 use Rattle.outline.specs.declared.Sizes.{Sizes}
-use Rattle.outline.specs.EdgeSums.{Term, a2, x6, y6, xx12, xy24, yy12, six, openEdges, edges, sumOver, totalsOver, outlineTotals, over, exceed, outlineBounds}
-use Rattle.outline.specs.ListCall.{accepted, refused, points, numbers, outside, anyOutside, misshapen, listCall}
+use Rattle.outline.specs.EdgeSums.{Term, a2, x6, y6, xx12, xy24, yy12, six, openEdges, edges, sumOver, totalsOver, outlineTotals, over, exceed, Fit, outlineBounds}
+use Rattle.outline.specs.ListCall.{accepted, refused, points, numbers, outside, anyOutside, wrongLength, listCall}
 use Rattle.outline.specs.MapCall.{totalLimits}
 use Rattle.outline.specs.WalkCalls.{share}
 use Rattle.integers.proofs.Flags.{or-left, or-right, neither, none-of-six}
@@ -76,7 +76,7 @@ pub record OutlineList (zs : List ℤ) : Type 0 where
 
 -- The list call accepts outlines only, with their totals,
 pub accepts-only-outlines : (zs : List ℤ) (t : Totals) → listCall zs ≡ accepted t → OutlineList zs × (t ≡ outlineTotals (points zs))
-unfolding listCall misshapen
+unfolding listCall wrongLength
 accepts-only-outlines zs t e = go (eqb (length zs % 2) 1) (ltb (length (points zs)) 3) (ltb 1024 (length (points zs))) (anyOutside (points zs)) refl refl refl refl e
   where
     go : (a b c d : Bool) → eqb (length zs % 2) 1 ≡ a → ltb (length (points zs)) 3 ≡ b → ltb 1024 (length (points zs)) ≡ c → anyOutside (points zs) ≡ d → cond (a || b || c) (refused 2) (cond d (refused 1) (accepted (outlineTotals (points zs)))) ≡ accepted t → OutlineList zs × (t ≡ outlineTotals (points zs))
@@ -94,7 +94,7 @@ accepts-only-outlines zs t e = go (eqb (length zs % 2) 1) (ltb (length (points z
 
 -- and every outline.
 pub accepts-outlines : (zs : List ℤ) → OutlineList zs → listCall zs ≡ accepted (outlineTotals (points zs))
-unfolding listCall misshapen
+unfolding listCall wrongLength
 accepts-outlines zs o = rw (ne-eqb (length zs % 2) 1 (o .even), le-ltb (length (points zs)) 3 (o .outline .enough), le-ltb 1024 (length (points zs)) (o .outline .few), none-outside (points zs) (o .outline .inside))
 
 -- The same for a list of points.
@@ -131,15 +131,6 @@ limits = 2000 ∷ 2000 ∷ 2000 ∷ 2000 ∷ []
 
 small : (t : Term) {K : ℕ} (a b : Position) → Inside a → Inside b → (q : Quote (coordinates a b) (t a b)) → T (leb (bound limits q) K) → natAbs (t a b) ≤ K
 small t a b h k q w = within (coordinates a b) limits (h .0, (h .1, (k .0, (k .1, tt)))) (t a b) q w
-
--- Each total is at most its bound in size.
-pub record Fit (b : Sizes) (t : Totals) : Type 0 where
-  pub a2 : natAbs (t .a2) ≤ b .a2
-  pub x6 : natAbs (t .x6) ≤ b .x6
-  pub y6 : natAbs (t .y6) ≤ b .y6
-  pub xx12 : natAbs (t .xx12) ≤ b .xx12
-  pub xy24 : natAbs (t .xy24) ≤ b .xy24
-  pub yy12 : natAbs (t .yy12) ≤ b .yy12
 
 pub fit-exceed : (b : Sizes) (t : Totals) → Fit b t → exceed b t ≡ false
 unfolding exceed

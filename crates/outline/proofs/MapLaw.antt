@@ -18,7 +18,7 @@ use Rattle.outline.specs.WalkCalls.{edgeTotals}
 use Rattle.outline.proofs.Every.{all-map, map-all}
 use Rattle.outline.proofs.EdgeSumLaws.{around, around-map, around-potential}
 use Rattle.outline.proofs.TotalsLaws.{totals-equal}
-use Rattle.outline.proofs.Limits.{Inside, all-inside, OutlineIn, Outline, Fit, fit-exceed, limits-fit, outline-fit}
+use Rattle.outline.proofs.Limits.{Inside, all-inside, OutlineIn, Outline, fit-exceed, limits-fit, outline-fit}
 
 -- ---- the formulas are linear
 

@@ -1,4 +1,4 @@
--- What demand 3 says besides, each a case of `pieces-add-up`: no cut, another start, backwards, moved, and no map.
+-- What demand 3 says besides, each a case of `pieces-add-up`: no cut, another start, backwards, moved, no map, and one piece by itself.
 use mathlib.Core.Path.{_≡_, refl, sym, _∙_, ap, ap₂, subst}
 use mathlib.Core.Bool.{false}
 use mathlib.Core.List.{List, [], _∷_, map, reverse, append-nil, List·Memᴰ, List·Memᴰ·head}
@@ -13,6 +13,7 @@ use Rattle.outline.specs.ListCall.{accepted, points, numbers, anyOutside
 use Rattle.outline.specs.MapCall.{movePoint, moved, disallowed, mapCall}
 use Rattle.outline.specs.Pieces.{Piece, Cut, cutAll, piecesOf, startAt, Direction, forwards, backwards, walked, placed, totalsOf, sumOf, directed}
 use Rattle.outline.proofs.TotalsLaws.{plus-zeros}
+use Rattle.outline.proofs.IndexLaws.{points-numbers}
 use Rattle.outline.proofs.Limits.{none-outside, accepts-only-outlines}
 use Rattle.outline.proofs.MapLaw.{map-accepts}
 use Rattle.outline.proofs.PiecesAddUp.{pieces-add-up}
@@ -30,12 +31,20 @@ only-piece {p = p} r = r .list-accepts p (List·Memᴰ·head refl) ∙ ap accept
 
 -- ---- no cut
 
+-- What is claimed of one piece, walked in the direction w and moved by the map m, and of its totals t before.
+pub record OnePiece (m : AffineMap) (w : Direction) (t : Totals) (p : Piece) : Type 0 where
+  -- The map's own answer for t, which is never refused.
+  pub image : Totals
+  pub map-accepts : mapCall m t ≡ accepted image
+  -- The list call answers the same, with all six signs turned if walked backwards.
+  pub list-accepts : listCall (numbers p) ≡ accepted (directed w image)
+
 -- The outline is the only piece, started anywhere, walked either way and moved.
-pub no-cut : (zs : List ℤ) (t : Totals) → listCall zs ≡ accepted t → (s : ℕ) (w : Direction) (m : AffineMap) → disallowed m ≡ false → anyOutside (moved m (points zs)) ≡ false → listCall (numbers (moved m (startAt s (walked w (points zs))))) ≡ accepted (directed w (mapCall m t .totals))
+pub no-cut : (zs : List ℤ) (t : Totals) → listCall zs ≡ accepted t → (s : ℕ) (w : Direction) (m : AffineMap) → disallowed m ≡ false → anyOutside (moved m (points zs)) ≡ false → OnePiece m w t (moved m (startAt s (walked w (points zs))))
 unfolding cutAll placed
 no-cut zs t taken s w m allowed bounds =
     let r = pieces-add-up zs t taken [] (λ k. s) w m allowed bounds in
-    only-piece (record { list-accepts = r .list-accepts; sum = r .sum ∙ ap (λ a. directed w (a .totals)) (sym (r .map-accepts)) })
+    record { image = r .image; map-accepts = r .map-accepts; list-accepts = only-piece (record { list-accepts = r .list-accepts; sum = r .sum }) }
 
 -- ---- the map that moves nothing
 
@@ -109,8 +118,11 @@ module _ (zs : List ℤ) (t : Totals) (taken : listCall zs ≡ accepted t) where
   pub moved-only : (m : AffineMap) → disallowed m ≡ false → anyOutside (moved m (points zs)) ≡ false → listCall (numbers (moved m (points zs))) ≡ mapCall m t
   unfolding walked directed
   moved-only m allowed bounds =
-      let r = pieces-add-up zs t taken [] (λ k. 0) forwards m allowed bounds in
-      ap (λ l. listCall (numbers (moved m l))) (sym (append-nil (points zs)))
-      ∙ no-cut zs t taken 0 forwards m allowed bounds
-      ∙ ap accepted (ap (λ a. a .totals) (r .map-accepts))
-      ∙ sym (r .map-accepts)
+      let r = no-cut zs t taken 0 forwards m allowed bounds in
+      ap (λ l. listCall (numbers (moved m l))) (sym (append-nil (points zs))) ∙ r .list-accepts ∙ sym (r .map-accepts)
+
+  -- One piece of those that the cuts leave, started anywhere, walked either way and moved, where the map keeps the points of this piece within the limits.
+  pub one-piece : (cuts : List Cut) (p : Piece) → List·Memᴰ p (piecesOf (points zs) cuts) → (s : ℕ) (w : Direction) (m : AffineMap) → disallowed m ≡ false → anyOutside (moved m p) ≡ false → OnePiece m w (totalsOf p) (moved m (startAt s (walked w p)))
+  one-piece cuts p k s w m allowed bounds =
+      let q = points-numbers p in
+      subst (λ l. OnePiece m w (totalsOf p) (moved m (startAt s (walked w l)))) q (no-cut (numbers p) (totalsOf p) (cuts-only cuts .list-accepts p k) s w m allowed (ap (λ l. anyOutside (moved m l)) q ∙ bounds))

@@ -1,6 +1,7 @@
--- Demand 1: a refused call gives zeros for totals and changes neither walk nor sheet. And 28 comes only for a walk or a sheet that it refuses.
-use mathlib.Core.Path.{_≡_, refl}
-use mathlib.Core.Bool.{Bool, true, false, cond}
+-- Demand 1: whatever the number, a call that is not accepted answers zeros and hands walk and sheet back as they came. And 28 is the answer for exactly the
+-- walks and sheets that it refuses.
+use mathlib.Core.Path.{_≡_, refl, sym, _∙_}
+use mathlib.Core.Bool.{Bool, true, false, _||_, cond, or-false}
 use mathlib.Core.List.{List}
 use mathlib.Core.Logic.{_≢_}
 use Prim.Native.Nat.{ℕ}
@@ -11,10 +12,10 @@ use Rattle.outline.specs.declared.AffineMap.{AffineMap}
 use Rattle.outline.specs.declared.Walk.{Walk}
 use Rattle.outline.specs.declared.Sheet.{Sheet}
 use Rattle.outline.specs.EdgeSums.{outlineTotals, zeros, exceed, outlineBounds}
-use Rattle.outline.specs.ListCall.{accepted, refused, points, anyOutside, misshapen, listCall}
+use Rattle.outline.specs.ListCall.{accepted, refused, points, anyOutside, wrongLength, listCall}
 use Rattle.outline.specs.MapCall.{disallowed, mapped, totalLimits, mapCall}
-use Rattle.outline.specs.WalkCalls.{unsoundWalk, EndOutcome, endCall}
-use Rattle.outline.specs.CallLists.{Call, numberOf, walkAfter, unsoundSheetIn}
+use Rattle.outline.specs.WalkCalls.{unsoundWalk, EndOutcome, beginCall, pointCall, endCall, abandonCall}
+use Rattle.outline.specs.CallLists.{Call, begin, point, end, abandon, numberOf, walkAfter, unsoundSheetIn}
 use Rattle.integers.proofs.Flags.{neither}
 use Rattle.outline.proofs.CallCases as Case
 
@@ -22,7 +23,7 @@ use Rattle.outline.proofs.CallCases as Case
 
 pub list-zeros : (zs : List ℤ) → listCall zs .number ≢ 0 → listCall zs .totals ≡ zeros
 unfolding listCall
-list-zeros zs = go (misshapen zs) (anyOutside (points zs))
+list-zeros zs = go (wrongLength zs) (anyOutside (points zs))
   where
     go : (a b : Bool) → (let r = cond a (refused 2) (cond b (refused 1) (accepted (outlineTotals (points zs)))) in r .number ≢ 0 → r .totals ≡ zeros)
     go true b n = refl
@@ -64,3 +65,11 @@ not-28 w e c f = go (numberOf w c) (walkAfter w c) (Case.call-case w c)
     go : (n : ℕ) (left : Walk) → Case.CallCase w c n left → n ≢ 28
     go n left (Case.refused k r) = r .only-28 (neither e f)
     go n left (Case.accepted k) = λ h. omega arith
+
+-- 28 comes first: a call with a walk or a sheet that 28 refuses is answered with 28, whatever else is wrong.
+pub first-28 : (w : Walk) (c : Call) → (unsoundWalk w || unsoundSheetIn c) ≡ true → numberOf w c ≡ 28
+unfolding numberOf unsoundSheetIn beginCall pointCall endCall abandonCall
+first-28 w begin e = rw (sym (or-false (unsoundWalk w)) ∙ e, numberOf)
+first-28 w (point p) e = rw (sym (or-false (unsoundWalk w)) ∙ e, numberOf)
+first-28 w (end s) e = rw (e, numberOf)
+first-28 w abandon e = rw (sym (or-false (unsoundWalk w)) ∙ e, numberOf)

@@ -1,22 +1,24 @@
 -- Demand 2 for sheets: a sheet holds the outlines that it has accepted since it was new, and nothing else; and 28 never refuses it.
-use mathlib.Core.Path.{_≡_, refl, sym, _∙_}
-use mathlib.Core.Bool.{false, cond}
-use mathlib.Core.List.{List, [], _∷_}
+use mathlib.Core.Path.{_≡_, refl, sym, _∙_, ap₂, subst}
+use mathlib.Core.Bool.{Bool, true, false, cond}
+use mathlib.Core.List.{List, [], _∷_, map}
 use Prim.Native.Nat.{_+_}
 use native.Mathlib.Omega.{arith}
 use lib.Dec.{eqb}
 use lib.ListN.{length}
-use borrow.Author.Tests.{le-ltb, ne-eqb}
+use borrow.Author.Tests.{le-ltb, eqb-true, ne-eqb}
+use Rattle.outline.specs.declared.Position.{Position}
 use Rattle.outline.specs.declared.Totals.{Totals}
 use Rattle.outline.specs.declared.Walk.{Walk}
 use Rattle.outline.specs.declared.Sheet.{Sheet}
-use Rattle.outline.specs.EdgeSums.{plus, over, exceed}
+use Rattle.outline.specs.EdgeSums.{outlineTotals, plus, over, exceed}
 use Rattle.outline.specs.Pieces.{sumOf}
 use Rattle.outline.specs.WalkCalls.{newSheet, addedTotals, sheetWith, unsoundSheet, EndOutcome, endCall}
-use Rattle.outline.specs.CallLists.{sheetAfter, addedBy}
+use Rattle.outline.specs.CallLists.{sheetAfter, addedBy, Walking, reached, outlinesOn}
 use Rattle.integers.proofs.Flags.{neither}
 use Rattle.outline.proofs.CallCases as Case
 use Rattle.outline.proofs.TotalsLaws.{plus-assoc, plus-zeros, zeros-plus}
+use Rattle.outline.proofs.WalkedOutline.{walked-outline}
 
 -- ---- a list of ends
 
@@ -59,3 +61,22 @@ unfolding unsoundSheet exceed over
 sheet-sums ws =
     let g = grown ws newSheet refl in
     record { count = omega (arith, g .count); totals = g .totals ∙ zeros-plus (sumOf (addedBy newSheet ws)); sound = g .sound }
+
+-- ---- walked outlines
+
+-- What a walked outline's end adds is the totals of its points.
+added-outlines : (ks : List Walking) (s : Sheet) → addedBy s (map (λ k. reached k .walk) ks) ≡ map outlineTotals (outlinesOn s (map reached ks))
+unfolding addedBy outlinesOn
+added-outlines [] s = refl
+added-outlines (k ∷ ks) s = go (outlinesOn (e .sheet) (map reached ks)) (added-outlines ks (e .sheet)) (eqb (e .number) 0) refl
+  where
+    e : EndOutcome
+    e = endCall (reached k .walk) s
+
+    go : {ts : List Totals} (os : List (List Position)) → ts ≡ map outlineTotals os → (b : Bool) → eqb (e .number) 0 ≡ b → cond b (e .totals ∷ ts) ts ≡ map outlineTotals (cond b (reached k .points ∷ os) os)
+    go os rest true h = ap₂ {C = List Totals} (λ t ts. t ∷ ts) (walked-outline (k .start) (k .is-closed) (k .calls) .edge-sums s (eqb-true (e .number) 0 h)) rest
+    go os rest false h = rest
+
+-- After every list of ends from a new sheet, each with the walk that some calls made from one marked closed: the sheet holds the outlines walked, and nothing else.
+pub walked-sheet-sums : (ks : List Walking) → SheetSums (sheetAfter newSheet (map (λ k. reached k .walk) ks)) (map outlineTotals (outlinesOn newSheet (map reached ks)))
+walked-sheet-sums ks = subst (SheetSums (sheetAfter newSheet (map (λ k. reached k .walk) ks))) (added-outlines ks newSheet) (sheet-sums (map (λ k. reached k .walk) ks))

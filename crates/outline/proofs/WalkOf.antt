@@ -5,7 +5,7 @@ use mathlib.Core.List.{List, [], _∷_, _++_}
 use Prim.Native.Nat.{suc, _+_, _≤_}
 use native.Mathlib.Omega.{arith}
 use lib.Dec.{eqb, eqb·suc-zero}
-use lib.ListN.{length, getD, length-append}
+use lib.ListN.{length, length-append}
 use lib.Seq.{getD-at}
 use borrow.Author.Tests.{le-ltb}
 use Rattle.outline.specs.declared.Position.{Position}
@@ -13,22 +13,13 @@ use Rattle.outline.specs.declared.Walk.{Walk}
 use Rattle.outline.specs.EdgeSums.{plus, openEdges, edges, sumOver, totalsOver, outlineTotals}
 use Rattle.outline.specs.ListCall.{outside}
 use Rattle.outline.specs.WalkCalls.{origin, edgeTotals, extended, closedTotals, share, unsoundWalk}
+use Rattle.outline.specs.CallLists.{firstOf, lastOf, walkOf}
 use Rattle.integers.proofs.Flags.{neither}
 use Rattle.outline.proofs.Every.{All, all-at}
 use Rattle.outline.proofs.IndexLaws.{totals-snoc}
 use Rattle.outline.proofs.Limits.{Inside, not-outside, fit-exceed, open-fit}
 
--- ---- the walk that has taken the points ps
-
-abbrev firstOf : List Position → Position
-firstOf ps = getD ps 0 origin
-
-abbrev lastOf : List Position → Position
-lastOf [] = origin
-lastOf (a ∷ ps) = getD (a ∷ ps) (length ps) origin
-
-abbrev pub walkOf : List Position → Walk
-walkOf ps = record { is_open = true; count = length ps; first = firstOf ps; last = lastOf ps; totals = totalsOver (openEdges ps) }
+-- ---- one point more, and the closing edge
 
 -- The first point adds no edge.
 pub first-point : (w : Walk) (p : Position) → w .count ≡ 0 → extended w p .totals ≡ w .totals

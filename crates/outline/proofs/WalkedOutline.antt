@@ -13,20 +13,20 @@ use Rattle.outline.specs.declared.Position.{Position}
 use Rattle.outline.specs.declared.AffineMap.{AffineMap}
 use Rattle.outline.specs.declared.Walk.{Walk}
 use Rattle.outline.specs.declared.Sheet.{Sheet}
-use Rattle.outline.specs.EdgeSums.{openEdges, sumOver, outlineBounds, exceed}
+use Rattle.outline.specs.EdgeSums.{openEdges, sumOver, outlineTotals, outlineBounds, exceed}
 use Rattle.outline.specs.ListCall.{accepted, points, numbers, outside, anyOutside, listCall}
 use Rattle.outline.specs.MapCall.{moved, disallowed}
 use Rattle.outline.specs.Pieces.{Cut, piecesOf, Direction, placed}
 use Rattle.outline.specs.WalkCalls.{EndOutcome, closedTotals, extended, unsoundWalk, endCall}
-use Rattle.outline.specs.CallLists.{Call, numberOf, walkAfter, unsoundSheetIn, pointsWith, Trace, next, after, from}
+use Rattle.outline.specs.CallLists.{Call, numberOf, walkAfter, unsoundSheetIn, pointsWith, Trace, next, after, from, walkOf}
 use Rattle.outline.proofs.Every.{All, all-append}
 use Rattle.outline.proofs.IndexLaws.{points-numbers}
-use Rattle.outline.proofs.Limits.{Inside, outside-not, accepts-points, accepted-within}
+use Rattle.outline.proofs.Limits.{Inside, outside-not, Outline, accepts-points, accepted-within}
 use Rattle.outline.proofs.PiecesAddUp.{PiecesAddUp, pieces-add-up}
 use Rattle.outline.proofs.CallCases as Case
 use Rattle.outline.proofs.CallCases.{Taken, begun, extends, ends, abandoned}
 use Rattle.outline.proofs.Refusals.{not-28}
-use Rattle.outline.proofs.WalkOf.{extended-is, walkOf, closed-is, sound-walk, sound-closed}
+use Rattle.outline.proofs.WalkOf.{extended-is, closed-is, sound-walk, sound-closed}
 
 -- ---- what every list of calls keeps
 
@@ -71,18 +71,18 @@ kept-sound : {r : Trace} → Kept r → unsoundWalk (r .walk) ≡ false
 kept-sound {r} (not-open h) = sound-closed (r .walk) h
 kept-sound (walking ps n h) = sound-walk ps n h
 
-kept-count : {r : Trace} → Kept r → r .walk .is_open ≡ true → r .walk .count ≡ length (r .points)
-kept-count (not-open h) e = absurd (true≢false (sym e ∙ h))
-kept-count (walking ps n h) e = refl
+kept-walk : {r : Trace} → Kept r → r .walk .is_open ≡ true → r .walk ≡ walkOf (r .points)
+kept-walk (not-open h) e = absurd (true≢false (sym e ∙ h))
+kept-walk (walking ps n h) e = refl
 
-closed-outline : {r : Trace} → Kept r → r .walk .is_open ≡ true → 3 ≤ r .walk .count → listCall (numbers (r .points)) ≡ accepted (closedTotals (r .walk))
+closed-outline : {r : Trace} → Kept r → r .walk .is_open ≡ true → 3 ≤ r .walk .count → Outline (r .points) × (closedTotals (r .walk) ≡ outlineTotals (r .points))
 closed-outline (not-open h) e m = absurd (true≢false (sym e ∙ h))
-closed-outline (walking ps n h) e m = accepts-points ps (record { enough = m; few = n; inside = h }) ∙ ap accepted (sym (closed-is ps m))
+closed-outline (walking ps n h) e m = (record { enough = m; few = n; inside = h }, closed-is ps m)
 
-accepted-end : {r : Trace} → Kept r → (s : Sheet) → endCall (r .walk) s .number ≡ 0 → listCall (numbers (r .points)) ≡ accepted (endCall (r .walk) s .totals)
+accepted-end : {r : Trace} → Kept r → (s : Sheet) → endCall (r .walk) s .number ≡ 0 → Outline (r .points) × (endCall (r .walk) s .totals ≡ outlineTotals (r .points))
 accepted-end {r} k s = go (endCall (r .walk) s) (Case.end-case (r .walk) s)
   where
-    go : (e : EndOutcome) → Case.EndCase (r .walk) s e → e .number ≡ 0 → listCall (numbers (r .points)) ≡ accepted (e .totals)
+    go : (e : EndOutcome) → Case.EndCase (r .walk) s e → e .number ≡ 0 → Outline (r .points) × (e .totals ≡ outlineTotals (r .points))
     go e (Case.refused n h) z = absurd (h .not-0 z)
     go e (Case.accepted h) z = closed-outline k (h .is-open) (h .enough)
 
@@ -94,17 +94,25 @@ pub record WalkedOutline (r : Trace) : Type 0 where
   pub sound : unsoundWalk (r .walk) ≡ false
   -- so no call on it answers 28, but an end with a sheet that 28 refuses.
   pub never-28 : (c : Call) → unsoundSheetIn c ≡ false → numberOf (r .walk) c ≢ 28
-  -- While the walk is open, it counts the points.
-  pub count : r .walk .is_open ≡ true → r .walk .count ≡ length (r .points)
-  -- An accepted end answers what the list call answers for the points.
+  -- While the walk is open, it is the walk of the points: their number, their ends and the sums over their edges so far.
+  pub is-walk : r .walk .is_open ≡ true → r .walk ≡ walkOf (r .points)
+  -- An accepted end answers the sums over all edges of the points, the closing edge among them,
+  pub edge-sums : (s : Sheet) → endCall (r .walk) s .number ≡ 0 → endCall (r .walk) s .totals ≡ outlineTotals (r .points)
+  -- which is what the list call answers for the points.
   pub same : (s : Sheet) → endCall (r .walk) s .number ≡ 0 → listCall (numbers (r .points)) ≡ accepted (endCall (r .walk) s .totals)
 
--- After every list of begin, point, end and abandon calls, refused ones included, from any walk marked closed, each given the walk that the last one
--- left and whichever sheet.
+-- After every list of calls on any walk marked closed, accepted or refused, the ends with any sheets.
 pub walked-outline : (w : Walk) → w .is_open ≡ false → (calls : List Call) → WalkedOutline (after (from w) calls)
 walked-outline w h calls =
+    let r = after (from w) calls in
     let k = kept-after calls (not-open h) in
-    record { sound = kept-sound k; never-28 = not-28 (after (from w) calls .walk) (kept-sound k); count = kept-count k; same = accepted-end k }
+    record {
+      sound = kept-sound k;
+      never-28 = not-28 (r .walk) (kept-sound k);
+      is-walk = kept-walk k;
+      edge-sums = λ s e. accepted-end k s e .1;
+      same = λ s e. let o = accepted-end k s e in accepts-points (r .points) (o .0) ∙ ap accepted (sym (o .1));
+    }
 
 module _ (w : Walk) (h : w .is_open ≡ false) (calls : List Call) (s : Sheet) where
   -- The totals of an accepted end are within the outline bounds,

@@ -1,17 +1,20 @@
 -- Document 01, "Walk and sheet": lists of calls on one walk, and lists of ends on one sheet.
 use Prim.Native.Nat.{ℕ}
+use mathlib.Core.Path.{_≡_}
 use mathlib.Core.Bool.{Bool, true, false, cond}
 use mathlib.Core.List.{List, [], _∷_, _++_}
 use lib.Dec.{eqb}
+use lib.ListN.{length, getD}
 use Rattle.outline.specs.declared.Position.{Position}
 use Rattle.outline.specs.declared.Totals.{Totals}
 use Rattle.outline.specs.declared.Walk.{Walk}
 use Rattle.outline.specs.declared.Sheet.{Sheet}
-use Rattle.outline.specs.WalkCalls.{beginCall, pointCall, endCall, abandonCall, unsoundSheet}
+use Rattle.outline.specs.EdgeSums.{openEdges, totalsOver}
+use Rattle.outline.specs.WalkCalls.{origin, beginCall, pointCall, endCall, abandonCall, unsoundSheet}
 
 -- ---- calls on a walk
 
--- An end comes with whichever sheet.
+-- Every end may have a sheet of its own.
 pub data Call : Type 0 where
   begin : Call
   point : Position → Call
@@ -38,14 +41,14 @@ unsoundSheetIn (point p) = false
 unsoundSheetIn (end s) = unsoundSheet s
 unsoundSheetIn abandon = false
 
--- What an accepted call does to the points since the last accepted begin.
+-- What an accepted call does to the points taken since the walk was opened.
 unfoldable pub pointsWith : List Position → Call → List Position
 pointsWith ps begin = []
 pointsWith ps (point p) = ps ++ p ∷ []
 pointsWith ps (end s) = ps
 pointsWith ps abandon = ps
 
--- A walk, and the points of the accepted point calls since the last accepted begin.
+-- A walk, and the points that it has taken since it was last opened.
 pub record Trace : Type 0 where
   pub walk : Walk
   pub points : List Position
@@ -53,7 +56,7 @@ pub record Trace : Type 0 where
 unfoldable pub next : Trace → Call → Trace
 next r c = record { walk = walkAfter (r .walk) c; points = cond (eqb (numberOf (r .walk) c) 0) (pointsWith (r .points) c) (r .points) }
 
--- Each call is given the walk that the last one left.
+-- The calls of a list, one after another on the same walk.
 unfoldable pub after : Trace → List Call → Trace
 after r [] = r
 after r (c ∷ calls) = after (next r c) calls
@@ -61,6 +64,17 @@ after r (c ∷ calls) = after (next r c) calls
 -- Before the first call.
 abbrev pub from : Walk → Trace
 from w = record { walk = w; points = [] }
+
+-- The walk that begin and then the points ps make: their number, the first and the last of them, and the sums over the edges from each to the next.
+abbrev pub firstOf : List Position → Position
+firstOf ps = getD ps 0 origin
+
+abbrev pub lastOf : List Position → Position
+lastOf [] = origin
+lastOf (a ∷ ps) = getD (a ∷ ps) (length ps) origin
+
+abbrev pub walkOf : List Position → Walk
+walkOf ps = record { is_open = true; count = length ps; first = firstOf ps; last = lastOf ps; totals = totalsOver (openEdges ps) }
 
 -- ---- ends on a sheet, each with whichever walk
 
@@ -74,3 +88,19 @@ addedBy s [] = []
 addedBy s (w ∷ ws) =
     let r = endCall w s in
     cond (eqb (r .number) 0) (r .totals ∷ addedBy (r .sheet) ws) (addedBy (r .sheet) ws)
+
+-- A walk marked closed, and the calls on it before an end.
+pub record Walking : Type 0 where
+  pub start : Walk
+  pub is-closed : start .is_open ≡ false
+  pub calls : List Call
+
+abbrev pub reached : Walking → Trace
+reached k = after (from (k .start)) (k .calls)
+
+-- The points of those walks whose end the sheet accepted.
+unfoldable pub outlinesOn : Sheet → List Trace → List (List Position)
+outlinesOn s [] = []
+outlinesOn s (r ∷ rs) =
+    let e = endCall (r .walk) s in
+    cond (eqb (e .number) 0) (r .points ∷ outlinesOn (e .sheet) rs) (outlinesOn (e .sheet) rs)

@@ -1,5 +1,5 @@
 -- Document 01, "The six totals of an outline": the edge terms, the edges of an outline, and the sums over them.
-use Prim.Native.Nat.{ℕ}
+use Prim.Native.Nat.{ℕ, _≤_}
 use mathlib.Core.Bool.{Bool, _||_}
 use mathlib.Core.List.{List, [], _∷_, _++_}
 use lib.Dec.{ltb}
@@ -14,31 +14,31 @@ use Rattle.outline.specs.declared.Sizes.{Sizes}
 abbrev pub Term : Type 0
 Term = Position → Position → ℤ
 
--- The cross product c of an edge's ends: from (x, y) to (p, q) it is x×q − p×y.
+-- The cross product c of an edge's ends: from (x, y) to (p, q) it is x×q − p×y. Walking anticlockwise counts as positive, and no total drops its sign.
 abbrev pub cross : Term
 cross a b = a .x *ℤ b .y -ℤ b .x *ℤ a .y
 
--- Row A2: c.
+-- Row A2: c. Around an outline it sums to 2 × the area.
 abbrev pub a2 : Term
 a2 a b = cross a b
 
--- Row X6: (x + p)×c.
+-- Row X6: (x + p)×c. It sums to 6 × the integral of x over the outline.
 abbrev pub x6 : Term
 x6 a b = (a .x +ℤ b .x) *ℤ cross a b
 
--- Row Y6: (y + q)×c.
+-- Row Y6: (y + q)×c. It sums to 6 × the integral of y.
 abbrev pub y6 : Term
 y6 a b = (a .y +ℤ b .y) *ℤ cross a b
 
--- Row XX12: (x×x + x×p + p×p)×c.
+-- Row XX12: (x×x + x×p + p×p)×c. It sums to 12 × the integral of x².
 abbrev pub xx12 : Term
 xx12 a b = (a .x *ℤ a .x +ℤ a .x *ℤ b .x +ℤ b .x *ℤ b .x) *ℤ cross a b
 
--- Row XY24: (2×x×y + x×q + p×y + 2×p×q)×c.
+-- Row XY24: (2×x×y + x×q + p×y + 2×p×q)×c. It sums to 24 × the integral of xy.
 abbrev pub xy24 : Term
 xy24 a b = (pos 2 *ℤ a .x *ℤ a .y +ℤ a .x *ℤ b .y +ℤ b .x *ℤ a .y +ℤ pos 2 *ℤ b .x *ℤ b .y) *ℤ cross a b
 
--- Row YY12: (y×y + y×q + q×q)×c.
+-- Row YY12: (y×y + y×q + q×q)×c. It sums to 12 × the integral of y².
 abbrev pub yy12 : Term
 yy12 a b = (a .y *ℤ a .y +ℤ a .y *ℤ b .y +ℤ b .y *ℤ b .y) *ℤ cross a b
 
@@ -52,13 +52,13 @@ pub record Edge : Type 0 where
   pub start : Position
   pub end : Position
 
--- The edges from each point to the next: those of a walk that is still open.
+-- The edges from each point to the next. Points so joined are a "walk" in document 01; the field calls it an open polyline.
 unfoldable pub openEdges : List Position → List Edge
 openEdges [] = []
 openEdges (a ∷ []) = []
 openEdges (a ∷ b ∷ ps) = record { start = a; end = b } ∷ openEdges (b ∷ ps)
 
--- The edges of an outline: the last point joins the first, and that closing edge stands last.
+-- The same, and last the edge that closes the polyline. Points so joined are an "outline" in document 01; the field calls it a closed polygon.
 unfoldable pub edges : List Position → List Edge
 edges [] = []
 edges (a ∷ ps) = openEdges (a ∷ ps ++ a ∷ [])
@@ -68,7 +68,7 @@ unfoldable pub sumOver : Term → List Edge → ℤ
 sumOver t [] = pos 0
 sumOver t (e ∷ es) = t (e .start) (e .end) +ℤ sumOver t es
 
--- The six totals of a list of edges; of an outline, they are the sums over all its edges, the closing edge among them.
+-- The six totals of a list of edges, and of an outline.
 abbrev pub totalsOver : List Edge → Totals
 totalsOver es = six (λ t. sumOver t es)
 
@@ -112,6 +112,15 @@ over n z = ltb n (natAbs z)
 -- Some total is greater in size than its bound.
 unfoldable pub exceed : Sizes → Totals → Bool
 exceed b t = over (b .a2) (t .a2) || over (b .x6) (t .x6) || over (b .y6) (t .y6) || over (b .xx12) (t .xx12) || over (b .xy24) (t .xy24) || over (b .yy12) (t .yy12)
+
+-- Each total is at most its bound in size.
+pub record Fit (b : Sizes) (t : Totals) : Type 0 where
+  pub a2 : natAbs (t .a2) ≤ b .a2
+  pub x6 : natAbs (t .x6) ≤ b .x6
+  pub y6 : natAbs (t .y6) ≤ b .y6
+  pub xx12 : natAbs (t .xx12) ≤ b .xx12
+  pub xy24 : natAbs (t .xy24) ≤ b .xy24
+  pub yy12 : natAbs (t .yy12) ≤ b .yy12
 
 -- The outline bounds.
 abbrev pub outlineBounds : Sizes

@@ -20,7 +20,7 @@ accepted t = record { number = 0; totals = t }
 abbrev pub refused : ℕ → Outcome
 refused n = record { number = n; totals = zeros }
 
--- The points of a list of numbers, x and y in turn.
+-- The points of a list of numbers that alternates x and y.
 unfoldable pub points : List ℤ → List Position
 points [] = []
 points (x ∷ []) = []
@@ -39,13 +39,13 @@ unfoldable pub anyOutside : List Position → Bool
 anyOutside [] = false
 anyOutside (p ∷ ps) = outside p || anyOutside ps
 
--- Refusal 2: an odd number of numbers, or fewer than 3 or more than 1,024 points.
-unfoldable pub misshapen : List ℤ → Bool
-misshapen zs = eqb (length zs % 2) 1 || ltb (length (points zs)) 3 || ltb 1024 (length (points zs))
+-- Refusal 2: an x is left without its y, or the number of points is not from 3 to 1,024.
+unfoldable pub wrongLength : List ℤ → Bool
+wrongLength zs = eqb (length zs % 2) 1 || ltb (length (points zs)) 3 || ltb 1024 (length (points zs))
 
 -- Order: 2, 1.
 unfoldable pub listCall : List ℤ → Outcome
 listCall zs =
-    cond (misshapen zs) (refused 2)
+    cond (wrongLength zs) (refused 2)
     (cond (anyOutside (points zs)) (refused 1)
     (accepted (outlineTotals (points zs))))

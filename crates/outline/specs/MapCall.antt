@@ -10,7 +10,7 @@ use Rattle.outline.specs.declared.AffineMap.{AffineMap}
 use Rattle.outline.specs.EdgeSums.{over, exceed, outlineBounds}
 use Rattle.outline.specs.ListCall.{Outcome, accepted, refused}
 
--- u = a×x + b×y + e, v = g×x + h×y + f.
+-- The image (u, v) of a point: u = a×x + b×y + e, v = g×x + h×y + f.
 abbrev pub movePoint : AffineMap → Position → Position
 movePoint m p =
     record {
@@ -21,7 +21,7 @@ movePoint m p =
 abbrev pub moved : AffineMap → List Position → List Position
 moved m ps = map (movePoint m) ps
 
--- Refusal 3: a, b, g or h is outside -2 to 2, or e or f outside -2,000 to 2,000.
+-- Refusal 3: a coefficient is greater in size than 2, or a shift than 2,000.
 unfoldable pub disallowed : AffineMap → Bool
 disallowed m = over 2 (m .a) || over 2 (m .b) || over 2 (m .g) || over 2 (m .h) || over 2000 (m .e) || over 2000 (m .f)
 
@@ -29,24 +29,53 @@ disallowed m = over 2 (m .a) || over 2 (m .b) || over 2 (m .g) || over 2 (m .h) 
 abbrev pub determinant : AffineMap → ℤ
 determinant m = m .a *ℤ m .h -ℤ m .b *ℤ m .g
 
--- The six formulas, of any six totals.
-abbrev pub mapped : AffineMap → Totals → Totals
-mapped m t =
-    let d = determinant m in
+-- "Maps", its six formulas: each is the determinant times a bracket. The bracket of X6, with a, b, e; of Y6, with g, h, f.
+abbrev pub firstMoment : ℤ → ℤ → ℤ → Totals → ℤ
+firstMoment a b e t = a *ℤ t .x6 +ℤ b *ℤ t .y6 +ℤ pos 3 *ℤ e *ℤ t .a2
+
+-- The bracket of XX12, with a, b, e; of YY12, with g, h, f.
+abbrev pub secondMoment : ℤ → ℤ → ℤ → Totals → ℤ
+secondMoment a b e t =
+    a *ℤ a *ℤ t .xx12 +ℤ b *ℤ b *ℤ t .yy12 +ℤ a *ℤ b *ℤ t .xy24 +ℤ pos 4 *ℤ a *ℤ e *ℤ t .x6 +ℤ pos 4 *ℤ b *ℤ e *ℤ t .y6 +ℤ pos 6 *ℤ (e *ℤ e) *ℤ t .a2
+
+-- The bracket of XY24.
+abbrev pub mixedMoment : ℤ → ℤ → ℤ → ℤ → ℤ → ℤ → Totals → ℤ
+mixedMoment a b e g h f t =
+    pos 2 *ℤ a *ℤ g *ℤ t .xx12 +ℤ pos 2 *ℤ b *ℤ h *ℤ t .yy12 +ℤ (a *ℤ h +ℤ b *ℤ g) *ℤ t .xy24 +ℤ pos 4 *ℤ (g *ℤ e +ℤ a *ℤ f) *ℤ t .x6 +ℤ pos 4 *ℤ (h *ℤ e +ℤ b *ℤ f) *ℤ t .y6 +ℤ pos 12 *ℤ e *ℤ f *ℤ t .a2
+
+-- The six brackets; that of A2 is A2 itself.
+abbrev pub brackets : AffineMap → Totals → Totals
+brackets m t =
+    record {
+      a2 = t .a2;
+      x6 = firstMoment (m .a) (m .b) (m .e) t;
+      y6 = firstMoment (m .g) (m .h) (m .f) t;
+      xx12 = secondMoment (m .a) (m .b) (m .e) t;
+      xy24 = mixedMoment (m .a) (m .b) (m .e) (m .g) (m .h) (m .f) t;
+      yy12 = secondMoment (m .g) (m .h) (m .f) t;
+    }
+
+-- Each of the six times d.
+abbrev pub scaled : ℤ → Totals → Totals
+scaled d t =
     record {
       a2 = d *ℤ t .a2;
-      x6 = d *ℤ (m .a *ℤ t .x6 +ℤ m .b *ℤ t .y6 +ℤ pos 3 *ℤ m .e *ℤ t .a2);
-      y6 = d *ℤ (m .g *ℤ t .x6 +ℤ m .h *ℤ t .y6 +ℤ pos 3 *ℤ m .f *ℤ t .a2);
-      xx12 = d *ℤ (m .a *ℤ m .a *ℤ t .xx12 +ℤ m .b *ℤ m .b *ℤ t .yy12 +ℤ m .a *ℤ m .b *ℤ t .xy24 +ℤ pos 4 *ℤ m .a *ℤ m .e *ℤ t .x6 +ℤ pos 4 *ℤ m .b *ℤ m .e *ℤ t .y6 +ℤ pos 6 *ℤ (m .e *ℤ m .e) *ℤ t .a2);
-      xy24 = d *ℤ (pos 2 *ℤ m .a *ℤ m .g *ℤ t .xx12 +ℤ pos 2 *ℤ m .b *ℤ m .h *ℤ t .yy12 +ℤ (m .a *ℤ m .h +ℤ m .b *ℤ m .g) *ℤ t .xy24 +ℤ pos 4 *ℤ (m .g *ℤ m .e +ℤ m .a *ℤ m .f) *ℤ t .x6 +ℤ pos 4 *ℤ (m .h *ℤ m .e +ℤ m .b *ℤ m .f) *ℤ t .y6 +ℤ pos 12 *ℤ m .e *ℤ m .f *ℤ t .a2);
-      yy12 = d *ℤ (m .g *ℤ m .g *ℤ t .xx12 +ℤ m .h *ℤ m .h *ℤ t .yy12 +ℤ m .g *ℤ m .h *ℤ t .xy24 +ℤ pos 4 *ℤ m .g *ℤ m .f *ℤ t .x6 +ℤ pos 4 *ℤ m .h *ℤ m .f *ℤ t .y6 +ℤ pos 6 *ℤ (m .f *ℤ m .f) *ℤ t .a2);
+      x6 = d *ℤ t .x6;
+      y6 = d *ℤ t .y6;
+      xx12 = d *ℤ t .xx12;
+      xy24 = d *ℤ t .xy24;
+      yy12 = d *ℤ t .yy12;
     }
+
+-- The six formulas, of any six totals.
+abbrev pub mapped : AffineMap → Totals → Totals
+mapped m t = scaled (determinant m) (brackets m t)
 
 -- The limits of a mapped total, and of a sheet's: 10^18 in size.
 abbrev pub totalLimits : Sizes
 totalLimits = record { a2 = 10 ^ 18; x6 = 10 ^ 18; y6 = 10 ^ 18; xx12 = 10 ^ 18; xy24 = 10 ^ 18; yy12 = 10 ^ 18 }
 
--- Refusal 4: a total handed in is outside the outline bounds. Refusal 5: a mapped total is outside the limits. Order: 3, 4, 5.
+-- 3 looks at the map, then 4 at the totals that the call is given, by the outline bounds, then 5 at those that it would answer.
 unfoldable pub mapCall : AffineMap → Totals → Outcome
 mapCall m t =
     cond (disallowed m) (refused 3)

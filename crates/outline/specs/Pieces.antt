@@ -1,4 +1,4 @@
--- Document 01, "Cuts, starts and moves". A piece is a closed polygon, given by its points; a cut splits it along a chord.
+-- Document 01, "Cuts, starts and moves". Its "piece" is a closed polygon, given by its points; its "cut" splits a polygon along a chord, the line between two of its points.
 use Prim.Native.Nat.{ℕ, zero, suc, min, max}
 use mathlib.Core.Bool.{Bool, not, _&&_, _||_, cond}
 use mathlib.Core.List.{List, [], _∷_, _++_, reverse}
@@ -14,7 +14,7 @@ Piece = List Position
 
 -- ---- cuts
 
--- A piece's number and two positions in it, all counted from 0.
+-- Which piece is cut, and which two of its points the chord joins; the first has number 0.
 pub record Cut : Type 0 where
   pub piece : ℕ
   pub one : ℕ
@@ -26,49 +26,49 @@ lower c = min (c .one) (c .other)
 abbrev pub higher : Cut → ℕ
 higher c = max (c .one) (c .other)
 
--- The two positions are neighbours round a piece of n points; the last and the first are neighbours too.
+-- The chord is an edge of a piece of n points, the closing edge included.
 unfoldable pub neighbours : ℕ → Cut → Bool
 neighbours n c = eqb (suc (lower c)) (higher c) || eqb (lower c) 0 && eqb (suc (higher c)) n
 
--- A cut can be made where its piece exists, both positions lie in it, and they are neither equal nor neighbours.
+-- There is such a piece, it has points of both numbers, the numbers differ, and no edge joins the two.
 unfoldable pub canCut : List Piece → Cut → Bool
 canCut pieces c =
     let n = length (getD pieces (c .piece) []) in
     ltb (c .piece) (length pieces) && ltb (c .one) n && ltb (c .other) n && not (eqb (c .one) (c .other)) && not (neighbours n c)
 
--- What the old piece keeps: the points from the lower position to the higher.
+-- The part between the cut points, with both. It takes the place of the piece that was cut.
 abbrev pub kept : Cut → Piece → Piece
 kept c p = drop (lower c) (take (suc (higher c)) p)
 
--- The next piece: the points from the higher position to the last, then those from the first to the lower position.
+-- The part round the other way, over the closing edge, again with both cut points. It is put after all pieces.
 abbrev pub others : Cut → Piece → Piece
 others c p = drop (higher c) p ++ take (suc (lower c)) p
 
--- A cut that cannot be made changes no piece.
+-- The pieces after a cut: with both parts in place of the whole, or as before where `canCut` fails.
 unfoldable pub cutOnce : List Piece → Cut → List Piece
 cutOnce pieces c =
     let p = getD pieces (c .piece) [] in
     cond (canCut pieces c) (set pieces (c .piece) (kept c p) ++ others c p ∷ []) pieces
 
--- Each cut gets the pieces that the last one left.
+-- The cuts of a list, one after another.
 unfoldable pub cutAll : List Piece → List Cut → List Piece
 cutAll pieces [] = pieces
 cutAll pieces (c ∷ cuts) = cutAll (cutOnce pieces c) cuts
 
--- Before the first cut the outline is the only piece.
+-- The pieces of an outline, which starts as piece 0.
 abbrev pub piecesOf : List Position → List Cut → List Piece
 piecesOf ps cuts = cutAll (ps ∷ []) cuts
 
 -- ---- starts and directions
 
--- Started at position s: the points from s to the last, then those before s. (A position past the end changes nothing: more than the paper asks.)
+-- The same polygon, listed from point s on and round. (An s past the end changes nothing: more than document 01 asks.)
 abbrev pub startAt : ℕ → Piece → Piece
 startAt s p = drop s p ++ take s p
 
 pub data Direction : Type 0 where
   forwards backwards : Direction
 
--- Walked backwards, a piece has its points in the opposite order.
+-- Backwards is the reverse of the list.
 unfoldable pub walked : Direction → Piece → Piece
 walked forwards p = p
 walked backwards p = reverse p
@@ -80,11 +80,11 @@ placed w start (p ∷ pieces) = startAt (start 0) (walked w p) ∷ placed w (λ 
 
 -- ---- totals of pieces
 
--- A piece's totals are those that the call on a whole list answers for its points.
+-- The totals of a piece, as the list call answers them.
 abbrev pub totalsOf : Piece → Totals
 totalsOf p = listCall (numbers p) .totals
 
--- Totals added as whole numbers, each of the six by itself.
+-- Six sums of integers, of any size.
 unfoldable pub sumOf : List Totals → Totals
 sumOf [] = zeros
 sumOf (t ∷ ts) = plus t (sumOf ts)

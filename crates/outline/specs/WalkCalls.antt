@@ -17,14 +17,15 @@ use Rattle.outline.specs.MapCall.{totalLimits}
 abbrev pub origin : Position
 origin = record { x = pos 0; y = pos 0 }
 
--- What begin leaves: an open walk of 0 points, zero totals, and (0, 0) as first and last point.
+-- A walk just begun: open, and all its numbers zero.
 abbrev pub opened : Walk
 opened = record { is_open = true; count = 0; first = origin; last = origin; totals = zeros }
 
--- What end and abandon leave, and what a walk is that was never opened: the same zeros, marked closed.
+-- A walk that is over or not begun: not open, and all its numbers zero.
 abbrev pub closed : Walk
 closed = record { is_open = false; count = 0; first = origin; last = origin; totals = zeros }
 
+-- Document 01's "sheet" is a running total over outlines; it starts from zero.
 abbrev pub newSheet : Sheet
 newSheet = record { count = 0; totals = zeros }
 
@@ -32,7 +33,7 @@ newSheet = record { count = 0; totals = zeros }
 abbrev pub edgeTotals : Position → Position → Totals
 edgeTotals a b = six (λ t. t a b)
 
--- The walk with one point more: it adds the edge from the point before it, and the first point adds none.
+-- The walk with one point more. From the second point on, the edge that leads to it is added.
 unfoldable pub extended : Walk → Position → Walk
 extended w p =
     cond (eqb (w .count) 0)
@@ -53,7 +54,7 @@ sheetWith s t = record { count = s .count + 1; totals = plus (s .totals) t }
 
 -- ---- refusal 28
 
--- 1/1,024 of each outline bound, n times.
+-- What n edges add to each total at most: n times the 1,024th part of its outline bound.
 abbrev pub share : ℕ → Sizes
 share n =
     record {
@@ -65,7 +66,7 @@ share n =
       yy12 = n * (outlineBounds .yy12 / 1024);
     }
 
--- An open walk has over 1,024 points, or has points and its first or last is outside the limits, or has a total above its share.
+-- An open walk that no calls make: its count is past 1,024, or an end of it, once it has points, is one that 1 refuses, or a total is past its share.
 unfoldable pub unsoundWalk : Walk → Bool
 unsoundWalk w =
     w .is_open
@@ -73,7 +74,7 @@ unsoundWalk w =
     || not (eqb (w .count) 0) && (outside (w .first) || outside (w .last))
     || exceed (share (w .count)) (w .totals))
 
--- A sheet has a count over 64 or a total outside its limits.
+-- A sheet that no ends make: its count is past 64, or a total is past its limit.
 unfoldable pub unsoundSheet : Sheet → Bool
 unsoundSheet s = ltb 64 (s .count) || exceed totalLimits (s .totals)
 
@@ -89,7 +90,7 @@ pub record EndOutcome : Type 0 where
   pub walk : Walk
   pub sheet : Sheet
 
--- A refused call leaves walk and sheet as they were, and gives zeros for totals.
+-- A refusal hands walk and sheet back unchanged, with zeros in place of totals.
 abbrev pub refusedWalk : ℕ → Walk → WalkOutcome
 refusedWalk n w = record { number = n; walk = w }
 

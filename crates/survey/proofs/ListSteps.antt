@@ -12,7 +12,7 @@ use lib.IntN.{ℤ, pos}
 use Rattle.outline.specs.declared.Position.{Position}
 use Rattle.outline.specs.declared.Totals.{Totals}
 use Rattle.outline.specs.EdgeSums.{openEdges, sumOver, totalsOver, outlineTotals, zeros, plus, exceed}
-use Rattle.outline.specs.ListCall.{points, misshapen, outside, anyOutside, listCall}
+use Rattle.outline.specs.ListCall.{points, wrongLength, outside, anyOutside, listCall}
 use Rattle.outline.specs.MapCall.{totalLimits}
 use Rattle.outline.specs.WalkCalls.{origin, edgeTotals}
 use Rattle.outline.proofs.Every.{all-at}
@@ -22,7 +22,7 @@ use Rattle.survey.proofs.Sizes.{share-within}
 
 -- ---- accepted lists
 
-pub outline-list : (zs : List ℤ) → misshapen zs ≡ false → anyOutside (points zs) ≡ false → OutlineList zs
+pub outline-list : (zs : List ℤ) → wrongLength zs ≡ false → anyOutside (points zs) ≡ false → OutlineList zs
 unfolding listCall
 outline-list zs e f = accepts-only-outlines zs (outlineTotals (points zs)) (rw (e, f)) .0
 

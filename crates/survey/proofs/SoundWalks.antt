@@ -9,12 +9,12 @@ use Rattle.integers.proofs.Order.{natAbs-add}
 use Rattle.outline.specs.declared.Totals.{Totals}
 use Rattle.outline.specs.declared.Walk.{Walk}
 use Rattle.outline.specs.declared.Sheet.{Sheet}
-use Rattle.outline.specs.EdgeSums.{plus, exceed}
+use Rattle.outline.specs.EdgeSums.{plus, exceed, Fit}
 use Rattle.outline.specs.ListCall.{outside}
 use Rattle.outline.specs.MapCall.{totalLimits}
 use Rattle.outline.specs.WalkCalls.{share, closedTotals, unsoundWalk, unsoundSheet}
 use Rattle.integers.proofs.Flags.{or-left, or-right}
-use Rattle.outline.proofs.Limits.{Fit, exceed-fit}
+use Rattle.outline.proofs.Limits.{exceed-fit}
 use Rattle.survey.proofs.Sizes.{share-within, edge-fit}
 
 pub record SoundOpen (w : Walk) : Type 0 where

@@ -5,7 +5,7 @@ ghost use mathlib.Core.List.{_++_};
 ghost use Prim.Native.Nat.{_+_, _*_, _%_, _<_, _≤_};
 ghost use lib.ListN.{length, getD, drop};
 ghost use Rattle.outline.specs.EdgeSums.{outlineTotals};
-ghost use Rattle.outline.specs.ListCall.{points as pointsOf, misshapen, anyOutside, listCall};
+ghost use Rattle.outline.specs.ListCall.{points as pointsOf, wrongLength, anyOutside, listCall};
 ghost use Rattle.outline.specs.WalkCalls.{origin};
 ghost use Rattle.survey.specs.ListAnswer.{reading};
 use crate::ZEROS;
@@ -23,7 +23,7 @@ pub enum OutlineAnswer {
 
 // Refusal 2.
 fn wrong_length(points: &[i32]) -> bool
-    ensures { λ r. ⌜ r ≡ misshapen (now (points .entry)) ⌝ }
+    ensures { λ r. ⌜ r ≡ wrongLength (now (points .entry)) ⌝ }
 {
     let n = points.len();
     if n % 2 == 1 {
@@ -83,7 +83,7 @@ fn copy_points(points: &[i32], buffer: &mut [i32])
 
 // The totals of an outline: each edge from one point to the next, and the closing edge.
 fn sum_edges(points: &[i32]) -> Totals
-    requires { ⌜ misshapen (now points) ≡ false ⌝ }
+    requires { ⌜ wrongLength (now points) ≡ false ⌝ }
     requires { ⌜ anyOutside (pointsOf (now points)) ≡ false ⌝ }
     ensures { λ r. ⌜ r ≡ outlineTotals (pointsOf (now (points .entry))) ⌝ }
 {

@@ -11,9 +11,9 @@ use Rattle.integers.proofs.Order.{pp, nn, pp-neg, nn-neg, sum-parts, natAbs-neg
 use Rattle.outline.specs.declared.Totals.{Totals}
 use Rattle.outline.specs.declared.Sizes.{Sizes}
 use Rattle.outline.specs.declared.Sheet.{Sheet}
-use Rattle.outline.specs.EdgeSums.{exceed}
+use Rattle.outline.specs.EdgeSums.{exceed, Fit}
 use Rattle.outline.specs.MapCall.{totalLimits}
-use Rattle.outline.proofs.Limits.{Fit, exceed-fit}
+use Rattle.outline.proofs.Limits.{exceed-fit}
 use Rattle.centroid.specs.Centroid.{CentroidOutcome, isCentre, firstCentre, centre, centred, signedBy, outlineCentroidCall}
 use Rattle.printing.specs.Output.{digits, decimal, signed, field, totalsText, centreText, outlineLine, refusalLine, sheetLine}
 use Rattle.text.specs.Stream.{lineRoom}

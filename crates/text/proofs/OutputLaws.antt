@@ -152,7 +152,7 @@ end-prints n r s o z = go (endCall (r .walk) s) (end-case (r .walk) s) z (o .sam
   where
     go : (e : EndOutcome) → EndCase (r .walk) s e → e .number ≡ 0 → listCall (numbers (r .points)) ≡ accepted (e .totals) → (let answer = listCall (numbers (r .points)) in (answer .number ≡ 0) × (carriedEnd n (r .walk .count) e .output ≡ outlineLine (s .count + 1) (length (r .points)) (answer .totals)))
     go e (Case.refused k h) z same = absurd (h .not-0 z)
-    go e (Case.accepted h) z same = (ap (λ a. a .number) same, rw (same, o .count (h .is-open)))
+    go e (Case.accepted h) z same = (ap (λ a. a .number) same, rw (same, ap (λ (w : Walk). w .count) (o .is-walk (h .is-open))))
 
 -- O: a line that is an accepted end, after the lines `before`. The list call accepts the points since the last accepted B line, and the line has the number of the
 -- O lines with this one, the number of those points, and the totals that the list call answers for them.

@@ -9,8 +9,7 @@ use Rattle.integers.proofs.Flags.{tells}
 use Rattle.outline.specs.EdgeSums.{exceed, outlineBounds}
 use Rattle.outline.specs.ListCall.{accepted}
 use Rattle.outline.proofs.Limits.{exceed-fit}
-use Rattle.outline.specs.MapCall.{disallowed, determinant, mapped, totalLimits}
-use Rattle.affine.specs.Brackets.{scaled}
+use Rattle.outline.specs.MapCall.{disallowed, determinant, scaled, mapped, totalLimits}
 use Rattle.affine.proofs.MappedTotals.{scaled-brackets, by-tests}
 use Rattle.affine.proofs.WithinLimits.{map-within, determinant-small}
 use Rattle.affine.proofs.map_totals.Statement.{statement}
@@ -33,13 +32,13 @@ returns-2 c =
     let s = c .before .before .before .before in
     sym (by-tests (s .args .m) (s .args .t) (allowed (c .before .before)) (tells (c .before .outside-bounds .ensures) (c .if2 .taken)) refl)
 
-d-is : (c : tie.After-determinant) → toZ w64 (ofZ w64 (c .determinant .result)) ≡ determinant (c .before .before .before .before .before .args .m)
-d-is c = toZ-ofZ (record { sfits = c .determinant .ok }) ∙ c .determinant .ensures
+d-is : (c : tie.After-map-determinant) → toZ w64 (ofZ w64 (c .map-determinant .result)) ≡ determinant (c .before .before .before .before .before .args .m)
+d-is c = toZ-ofZ (record { sfits = c .map-determinant .ok }) ∙ c .map-determinant .ensures
 
-result-is : (c : tie.After-brackets) → scaled (toZ w64 (ofZ w64 (c .before .determinant .result))) (c .brackets .result) ≡ mapped (c .before .before .before .before .before .before .args .m) (c .before .before .before .before .before .before .args .t)
+result-is : (c : tie.After-bracket-totals) → scaled (toZ w64 (ofZ w64 (c .before .map-determinant .result))) (c .bracket-totals .result) ≡ mapped (c .before .before .before .before .before .before .args .m) (c .before .before .before .before .before .before .args .t)
 result-is c =
     let s = c .before .before .before .before .before .before in
-    scaled-brackets (s .args .m) (s .args .t) (d-is (c .before)) (c .brackets .ensures)
+    scaled-brackets (s .args .m) (s .args .t) (d-is (c .before)) (c .bracket-totals .ensures)
 
 result-requires : tie.Need-result-outside-limits-requires
 result-requires c κs = rw (d-is (c .before)) (determinant-small (map-within _ (allowed (c .before .before .before .before))))
@@ -58,7 +57,7 @@ returns-4 : tie.Need-returns-4
 returns-4 c =
     let k = c .before .before .before .before .before in
     let s = k .before .before .before .before in
-    ap accepted (c .scaled .ensures ∙ result-is (c .before .before .before)) ∙ sym (by-tests (s .args .m) (s .args .t) (allowed (k .before .before)) (inside k) (fifth (c .before .before) (c .before .if3 .left)))
+    ap accepted (c .scale .ensures ∙ result-is (c .before .before .before)) ∙ sym (by-tests (s .args .m) (s .args .t) (allowed (k .before .before)) (inside k) (fifth (c .before .before) (c .before .if3 .left)))
 
 pub map-totals-spec : {M : Type 1} → statement M
 map-totals-spec =

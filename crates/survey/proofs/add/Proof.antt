@@ -7,7 +7,8 @@ use mir.Syntax.{w64}
 use mir.Val.{SFits, toZ, ofZ}
 use Rattle.integers.proofs.SignedCode.{code, run-fits, runs}
 use Rattle.outline.specs.MapCall.{totalLimits}
-use Rattle.outline.proofs.Limits.{Fit, exceed-fit}
+use Rattle.outline.specs.EdgeSums.{Fit}
+use Rattle.outline.proofs.Limits.{exceed-fit}
 use Rattle.outline.proofs.TotalsLaws.{totals-equal}
 use Rattle.survey.proofs.add.Statement.{statement}
 use Rattle.survey.proofs.add.Tie as tie

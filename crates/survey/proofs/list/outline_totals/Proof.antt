@@ -5,7 +5,7 @@ use native.Mathlib.Omega.{arith}
 use borrow.Author.Needs.{needs}
 use lib.ListN.{length, take, length-append}
 use lib.Seq.{take-append-seam}
-use Rattle.outline.specs.ListCall.{points as pointsOf, misshapen, anyOutside, listCall}
+use Rattle.outline.specs.ListCall.{points as pointsOf, wrongLength, anyOutside, listCall}
 use Rattle.outline.proofs.IndexLaws.{length-points}
 use Rattle.outline.proofs.Limits.{OutlineList}
 use Rattle.integers.proofs.Flags.{tells}
@@ -24,7 +24,7 @@ any-outside-requires : tie.Need-any-outside-requires
 any-outside-requires c κs = search needs
 
 -- The list is not refused with 2.
-shaped : (c : tie.Else1) → misshapen (c .before .before .args .points .now) ≡ false
+shaped : (c : tie.Else1) → wrongLength (c .before .before .args .points .now) ≡ false
 shaped c = tells (c .before .wrong-length .ensures) (c .if1 .left)
 
 returns-2 : tie.Need-returns-2

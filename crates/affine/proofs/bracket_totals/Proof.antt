@@ -1,4 +1,4 @@
--- `brackets` puts the six brackets together. The map's numbers are widened to i64, and keep their values and bounds.
+-- `bracket_totals` puts the six brackets together. The map's numbers are widened to i64, and keep their values and bounds.
 use mathlib.Core.Path.{_≡_, _∙_}
 use Prim.Native.Nat.{_<_, _^_}
 use lib.IntN.{ℤ}
@@ -9,11 +9,11 @@ use mir.Facts.{toZ-ofZ}
 use borrow.Author.Needs.{needs}
 use Rattle.outline.specs.declared.Totals.{Totals}
 use Rattle.outline.specs.declared.AffineMap.{AffineMap}
-use Rattle.affine.specs.Brackets.{firstMoment, secondMoment, mixedMoment}
+use Rattle.outline.specs.MapCall.{firstMoment, secondMoment, mixedMoment}
 use Rattle.affine.specs.Limits.{RowWithin}
 use Rattle.affine.proofs.Fields.{MapFit, TotalsFit, widens, widened}
-use Rattle.affine.proofs.brackets.Statement.{statement}
-use Rattle.affine.proofs.brackets.Tie as tie
+use Rattle.affine.proofs.bracket_totals.Statement.{statement}
+use Rattle.affine.proofs.bracket_totals.Tie as tie
 
 fit : (s : tie.Start) → MapFit (s .args .m)
 fit s = search needs
@@ -63,8 +63,8 @@ returns c =
       yy12 = called (row-is (λ a b e. secondMoment a b e t) (k .g) (k .h) (k .f)) (c5 .second-moment2 .ensures) (c5 .second-moment2 .ok) i;
     }
 
-pub brackets-spec : {M : Type 1} → statement M
-brackets-spec =
+pub bracket-totals-spec : {M : Type 1} → statement M
+bracket-totals-spec =
     tie.close
     (tie.spec
     (λ c. widens (fit (c .before .before) .a))

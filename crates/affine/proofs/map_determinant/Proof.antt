@@ -1,11 +1,11 @@
--- `determinant` is d: every step fits 32 bits, since the four coefficients are at most 2 in size.
+-- `map_determinant` is d: every step fits 32 bits, since the four coefficients are at most 2 in size.
 use mathlib.Core.List.{List, [], _∷_}
 use Prim.Native.Nat.{ℕ}
 use lib.IntN.{ℤ}
 use Rattle.integers.proofs.Bounds.{Within}
 use Rattle.integers.proofs.SignedCode.{code, runs, run-fits}
-use Rattle.affine.proofs.determinant.Statement.{statement}
-use Rattle.affine.proofs.determinant.Tie as tie
+use Rattle.affine.proofs.map_determinant.Statement.{statement}
+use Rattle.affine.proofs.map_determinant.Tie as tie
 
 abbrev ρ : tie.Start → List ℤ
 ρ s = s .args .m .a ∷ s .args .m .b ∷ s .args .m .g ∷ s .args .m .h ∷ []
@@ -24,8 +24,8 @@ returns c =
     let s = c .before .before .before .before in
     runs (ρ s) B (small s) (search code depth 60) tt
 
-pub determinant-spec : {M : Type 1} → statement M
-determinant-spec =
+pub map-determinant-spec : {M : Type 1} → statement M
+map-determinant-spec =
     tie.close
     (tie.spec
     (λ c. let s = c .before .before in run-fits (ρ s) B (small s) (search code depth 60) tt)

@@ -1,4 +1,4 @@
--- `scaled` multiplies each of the six by d. By its bounds every product fits.
+-- `scale` multiplies each of the six by d. By its bounds every product fits.
 use mathlib.Core.Path.{_≡_, sym, _∙_, subst}
 use Prim.Native.Nat.{_≤_, _^_}
 use native.Mathlib.Omega.{arith}
@@ -9,8 +9,8 @@ use mir.Facts.{toZ-ofZ}
 use borrow.Author.Needs.{needs}
 use Rattle.integers.proofs.Bounds.{natAbs-sfits}
 use Rattle.affine.proofs.Fields.{TotalsFit, product-read}
-use Rattle.affine.proofs.scaled.Statement.{statement}
-use Rattle.affine.proofs.scaled.Tie as tie
+use Rattle.affine.proofs.scale.Statement.{statement}
+use Rattle.affine.proofs.scale.Tie as tie
 
 fit : (s : tie.Start) → TotalsFit (s .args .s)
 fit s = search needs
@@ -30,8 +30,8 @@ returns c =
     let h = s .pre in
     λ i. record { a2 = is s (k .a2) (h .a2) i; x6 = is s (k .x6) (h .x6) i; y6 = is s (k .y6) (h .y6) i; xx12 = is s (k .xx12) (h .xx12) i; xy24 = is s (k .xy24) (h .xy24) i; yy12 = is s (k .yy12) (h .yy12) i }
 
-pub scaled-spec : {M : Type 1} → statement M
-scaled-spec =
+pub scale-spec : {M : Type 1} → statement M
+scale-spec =
     tie.close
     (tie.spec
     (λ c. let s = c .before .before in fits s (fit s .a2) (s .pre .a2))
