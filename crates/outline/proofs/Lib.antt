@@ -21,3 +21,4 @@ pub mod WalkOf
 pub mod WalkedOutline
 pub mod EveryOutline
 pub mod SheetSums
+pub mod CornerCases

@@ -1,0 +1,96 @@
+-- Corner cases of document 01's rules for lists, walks and sheets, each by computation from the definitions.
+use mathlib.Core.Path.{_≡_, refl}
+use mathlib.Core.Bool.{true, false}
+use mathlib.Core.List.{List, [], _∷_, map}
+use Prim.Native.Nat.{ℕ}
+use lib.IntN.{ℤ, pos, negsuc}
+use Rattle.outline.specs.declared.Position.{Position}
+use Rattle.outline.specs.declared.Totals.{Totals}
+use Rattle.outline.specs.declared.Walk.{Walk}
+use Rattle.outline.specs.declared.Sheet.{Sheet}
+use Rattle.outline.specs.EdgeSums.{zeros, over, exceed}
+use Rattle.outline.specs.ListCall.{points, outside, anyOutside, wrongLength, listCall}
+use Rattle.outline.specs.WalkCalls.{origin, opened, closed, newSheet, extended, unsoundWalk, unsoundSheet, refusedWalk, refusedEnd, beginCall, pointCall, endCall, abandonCall}
+
+abbrev at : ℤ → ℤ → Position
+at x y = record { x = x; y = y }
+
+-- A2 alone
+abbrev area : ℕ → Totals
+area a = record { a2 = pos a; x6 = pos 0; y6 = pos 0; xx12 = pos 0; xy24 = pos 0; yy12 = pos 0 }
+
+abbrev openWith : ℕ → Position → Position → Totals → Walk
+openWith n first last t = record { is_open = true; count = n; first = first; last = last; totals = t }
+
+-- ---- lists: 2 comes before 1, and the least i32 is outside the limits
+
+abbrev bad : ℤ
+bad = negsuc 2_147_483_647
+
+lists : map (λ zs. listCall zs .number) ([] ∷ (bad ∷ bad ∷ bad ∷ bad ∷ bad ∷ []) ∷ (bad ∷ pos 0 ∷ pos 0 ∷ pos 0 ∷ pos 1 ∷ pos 1 ∷ []) ∷ (pos 2000 ∷ pos 0 ∷ pos 0 ∷ pos 2000 ∷ pos 1 ∷ pos 1 ∷ []) ∷ []) ≡ 2 ∷ 2 ∷ 1 ∷ 0 ∷ []
+unfolding points over outside anyOutside wrongLength listCall
+lists = refl
+
+-- ---- a walk marked closed with other fields: 28 does not look at it
+
+abbrev leftover : Walk
+leftover = record { is_open = false; count = 7; first = at (pos 1) (pos 2); last = origin; totals = area 5 }
+
+record ClosedWalk : Type 0 where
+  point : pointCall leftover (at (pos 1) (pos 1)) ≡ refusedWalk 21 leftover
+  end : endCall leftover newSheet ≡ refusedEnd 21 leftover newSheet
+  abandon : abandonCall leftover ≡ refusedWalk 21 leftover
+  begin : beginCall leftover ≡ record { number = 0; walk = opened }
+
+closed-walk : ClosedWalk
+unfolding over exceed outside unsoundWalk unsoundSheet beginCall pointCall endCall abandonCall
+closed-walk = record { point = refl; end = refl; abandon = refl; begin = refl }
+
+-- ---- the sheet's half of 28 comes before 21; a sheet's count and totals need not agree
+
+abbrev fullSheet : Sheet
+fullSheet = record { count = 65; totals = zeros }
+
+abbrev uncounted : Sheet
+uncounted = record { count = 0; totals = area 5 }
+
+record Sheets : Type 0 where
+  too-many : endCall closed fullSheet ≡ refusedEnd 28 closed fullSheet
+  taken : unsoundSheet uncounted ≡ false
+
+sheets : Sheets
+unfolding over exceed outside unsoundWalk unsoundSheet endCall
+sheets = record { too-many = refl; taken = refl }
+
+-- ---- an open walk of no points: its first and last are not looked at, its totals are
+
+abbrev pointless : Walk
+pointless = openWith 0 (at (pos 99_999) (negsuc 4)) origin zeros
+
+record NoPoints : Type 0 where
+  point : pointCall pointless (at (pos 3) (pos 4)) ≡ record { number = 0; walk = openWith 1 (at (pos 3) (pos 4)) (at (pos 3) (pos 4)) zeros }
+  begin : beginCall pointless ≡ refusedWalk 22 pointless
+  end : endCall pointless newSheet ≡ refusedEnd 24 pointless newSheet
+  abandon : abandonCall pointless ≡ record { number = 0; walk = closed }
+  area-without-points : pointCall (openWith 0 origin origin (area 1)) origin .number ≡ 28
+
+no-points : NoPoints
+unfolding over exceed outside extended unsoundWalk unsoundSheet beginCall pointCall endCall abandonCall
+no-points = record { point = refl; begin = refl; end = refl; abandon = refl; area-without-points = refl }
+
+-- ---- walks handed in that no calls have made
+
+record HandedIn : Type 0 where
+  -- 28 asks for no agreement of first, last and totals, only for the share of the points
+  one-point : pointCall (openWith 1 origin (at (pos 9) (pos 9)) (area 8_000_000)) origin .number ≡ 0
+  above-the-share : pointCall (openWith 1 origin (at (pos 9) (pos 9)) (area 8_000_001)) origin .number ≡ 28
+  three-points : endCall (openWith 3 origin origin (area 24_000_000)) newSheet .totals ≡ area 24_000_000
+  one-more : endCall (openWith 3 origin origin (area 24_000_001)) newSheet .number ≡ 28
+  -- an end may answer more than an outline's bound
+  large : endCall (openWith 1024 (at (pos 2000) (pos 2000)) (at (pos 2000) (negsuc 1999)) (area 8_192_000_000)) newSheet .totals .a2 ≡ pos 8_200_000_000
+  -- an open walk that 28 refuses cannot be abandoned
+  too-long : abandonCall (openWith 1025 origin origin zeros) ≡ refusedWalk 28 (openWith 1025 origin origin zeros)
+
+handed-in : HandedIn
+unfolding over exceed outside extended unsoundWalk unsoundSheet pointCall endCall abandonCall
+handed-in = record { one-point = refl; above-the-share = refl; three-points = refl; one-more = refl; large = refl; too-long = refl }
