@@ -31,8 +31,8 @@ outline-back (outline.Accepted t) = refl
 outline-back outline.WrongLength = refl
 outline-back outline.OutsideLimits = refl
 
-pub reading-injective : (a b : OutlineAnswer) → reading a ≡ reading b → a ≡ b
-reading-injective a b e = sym (outline-back a) ∙ ap (λ r. outlineOf (r .number) (r .totals)) e ∙ outline-back b
+pub reading-one-to-one : (a b : OutlineAnswer) → reading a ≡ reading b → a ≡ b
+reading-one-to-one a b e = sym (outline-back a) ∙ ap (λ r. outlineOf (r .number) (r .totals)) e ∙ outline-back b
 
 -- ---- begin
 
@@ -44,8 +44,8 @@ begin-back begin.Accepted = refl
 begin-back begin.Unsound = refl
 begin-back begin.AlreadyOpen = refl
 
-pub begin-reading-injective : (r s : BeginReply) → beginReading r ≡ beginReading s → r ≡ s
-begin-reading-injective r s e = λ i. record { answer = (sym (begin-back (r .answer)) ∙ ap (λ o. beginOf (o .number)) e ∙ begin-back (s .answer)) i; walk = e i .walk }
+pub begin-reading-one-to-one : (r s : BeginReply) → beginReading r ≡ beginReading s → r ≡ s
+begin-reading-one-to-one r s e = λ i. record { answer = (sym (begin-back (r .answer)) ∙ ap (λ o. beginOf (o .number)) e ∙ begin-back (s .answer)) i; walk = e i .walk }
 
 -- ---- point
 
@@ -59,8 +59,8 @@ point-back point.NotOpen = refl
 point-back point.OutsideLimits = refl
 point-back point.Full = refl
 
-pub point-reading-injective : (r s : PointReply) → pointReading r ≡ pointReading s → r ≡ s
-point-reading-injective r s e = λ i. record { answer = (sym (point-back (r .answer)) ∙ ap (λ o. pointOf (o .number)) e ∙ point-back (s .answer)) i; walk = e i .walk }
+pub point-reading-one-to-one : (r s : PointReply) → pointReading r ≡ pointReading s → r ≡ s
+point-reading-one-to-one r s e = λ i. record { answer = (sym (point-back (r .answer)) ∙ ap (λ o. pointOf (o .number)) e ∙ point-back (s .answer)) i; walk = e i .walk }
 
 -- ---- end
 
@@ -75,8 +75,8 @@ end-back end.TooFewPoints = refl
 end-back end.SheetFull = refl
 end-back end.SheetExceeded = refl
 
-pub end-reading-injective : (r s : EndReply) → endReading r ≡ endReading s → r ≡ s
-end-reading-injective r s e = λ i. record { answer = (sym (end-back (r .answer)) ∙ ap (λ o. endOf (o .number) (o .totals)) e ∙ end-back (s .answer)) i; walk = e i .walk; sheet = e i .sheet }
+pub end-reading-one-to-one : (r s : EndReply) → endReading r ≡ endReading s → r ≡ s
+end-reading-one-to-one r s e = λ i. record { answer = (sym (end-back (r .answer)) ∙ ap (λ o. endOf (o .number) (o .totals)) e ∙ end-back (s .answer)) i; walk = e i .walk; sheet = e i .sheet }
 
 -- ---- abandon
 
@@ -88,5 +88,5 @@ abandon-back abandon.Accepted = refl
 abandon-back abandon.Unsound = refl
 abandon-back abandon.NotOpen = refl
 
-pub abandon-reading-injective : (r s : AbandonReply) → abandonReading r ≡ abandonReading s → r ≡ s
-abandon-reading-injective r s e = λ i. record { answer = (sym (abandon-back (r .answer)) ∙ ap (λ o. abandonOf (o .number)) e ∙ abandon-back (s .answer)) i; walk = e i .walk }
+pub abandon-reading-one-to-one : (r s : AbandonReply) → abandonReading r ≡ abandonReading s → r ≡ s
+abandon-reading-one-to-one r s e = λ i. record { answer = (sym (abandon-back (r .answer)) ∙ ap (λ o. abandonOf (o .number)) e ∙ abandon-back (s .answer)) i; walk = e i .walk }
