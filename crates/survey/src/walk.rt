@@ -201,12 +201,12 @@ fn closed_totals(w: Walk) -> Totals
     add(totals, edge)
 }
 
-fn refused_end(answer: EndAnswer, walk: Walk, sheet: Sheet) -> EndReply
-    ensures { λ r. ⌜ r ≡ record { answer = answer; walk = walk; sheet = sheet } ⌝ }
+fn refused_end(answer: EndAnswer, held: Walk, sheet: Sheet) -> EndReply
+    ensures { λ r. ⌜ r ≡ record { answer = answer; walk = held; sheet = sheet } ⌝ }
 {
     EndReply {
         answer,
-        walk,
+        walk: held,
         sheet,
     }
 }

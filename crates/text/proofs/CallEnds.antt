@@ -11,9 +11,10 @@ use lib.Seq.{drop-drop}
 use lib.Dec.{ltb}
 use borrow.Author.Tests.{ltb-true}
 use Rattle.outline.specs.declared.Sheet.{Sheet}
+use Rattle.printing.specs.Put.{lineRoom}
 use Rattle.text.specs.declared.State.{State}
-use Rattle.text.specs.Stream.{Step, lineRoom, followed, step, steps, feedCall}
-use Rattle.text.proofs.Cases.{by-cond}
+use Rattle.text.specs.Stream.{Step, followed, step, steps, feedCall}
+use Rattle.printing.proofs.Cases.{by-cond}
 use Rattle.text.proofs.StepCases.{Present, StepCase, done, ended, last, waits, far, newline, unended, holds, step-case}
 use Rattle.text.proofs.Steps.{steps-keep}
 use Rattle.text.proofs.Progress.{workLeft, NeedsInput, at-most-two, nothing-left, more-is-less, step-progress, stepsAfter, first-step}

@@ -8,9 +8,10 @@ use native.Mathlib.Omega.{arith}
 use lib.ListN.{take, drop}
 use Rattle.outline.specs.declared.Sheet.{Sheet}
 use Rattle.outline.specs.WalkCalls.{closed, newSheet}
+use Rattle.printing.specs.Put.{lineRoom}
 use Rattle.text.specs.declared.State.{State}
 use Rattle.text.specs.Program.{program}
-use Rattle.text.specs.Stream.{Step, lineRoom, feedCall, remaining}
+use Rattle.text.specs.Stream.{Step, feedCall, remaining}
 use Rattle.text.proofs.StepRemains.{Remains}
 use Rattle.text.proofs.FeedRemains.{feed-remains}
 use Rattle.text.proofs.ReadingFurther.{reading-further}

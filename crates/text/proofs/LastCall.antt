@@ -7,8 +7,10 @@ use native.Mathlib.Omega.{arith}
 use lib.ListN.{length}
 use borrow.Author.Tests.{le-ltb}
 use Rattle.outline.specs.declared.Sheet.{Sheet}
+use Rattle.printing.specs.Put.{lineRoom}
 use Rattle.text.specs.declared.State.{State}
-use Rattle.text.specs.Stream.{Step, lineRoom, lineLength, closing, followed, step, steps, feedCall}
+use Rattle.forms.specs.ReadForm.{lineLength}
+use Rattle.text.specs.Stream.{Step, closing, followed, step, steps, feedCall}
 use Rattle.text.proofs.StepCases.{StepCase, done, ended, last, waits, far, newline, unended, holds, step-case}
 use Rattle.text.proofs.Progress.{stepsAfter, first-step}
 use Rattle.text.proofs.Room.{Fits, step-line}

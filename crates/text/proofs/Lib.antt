@@ -1,4 +1,3 @@
-pub mod Cases
 pub mod Worked
 pub mod Forms
 pub mod Lines
@@ -11,7 +10,6 @@ pub mod Steps
 pub mod FeedRemains
 pub mod Progress
 pub mod CallEnds
-pub mod LineLengths
 pub mod Room
 pub mod LastCall
 pub mod Chunks

@@ -9,8 +9,8 @@ use lib.Seq.{length-take-le, take-all, drop-length}
 use lib.Dec.{eqb}
 use borrow.Author.Tests.{eqb-true}
 use Rattle.text.specs.Program.{Line, linesFrom}
-use Rattle.text.specs.Stream.{lineLength}
-use Rattle.text.proofs.Cases.{by-cond}
+use Rattle.forms.specs.ReadForm.{lineLength}
+use Rattle.printing.proofs.Cases.{by-cond}
 
 -- ---- the first newline
 

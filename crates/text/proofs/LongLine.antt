@@ -9,7 +9,7 @@ use Rattle.outline.specs.declared.Walk.{Walk}
 use Rattle.outline.specs.declared.Sheet.{Sheet}
 use Rattle.forms.specs.Grammar.{formOf}
 use Rattle.text.specs.Program.{Line, linesFrom, tooFar, outputOf}
-use Rattle.text.proofs.Cases.{both-cond}
+use Rattle.printing.proofs.Cases.{both-cond}
 use Rattle.text.proofs.Forms.{long-line}
 use Rattle.text.proofs.Lines.{line}
 

@@ -11,9 +11,11 @@ use lib.Seq.{drop-drop}
 use lib.Dec.{eqb, ltb}
 use borrow.Author.Tests.{eqb-true, le-ltb}
 use Rattle.outline.specs.declared.Sheet.{Sheet}
+use Rattle.printing.specs.Put.{lineRoom}
 use Rattle.text.specs.declared.State.{State}
-use Rattle.text.specs.Stream.{Step, lineRoom, lineLength, halted, followed, step, steps, feedCall}
-use Rattle.text.proofs.Cases.{by-cond, both-cond}
+use Rattle.forms.specs.ReadForm.{lineLength}
+use Rattle.text.specs.Stream.{Step, halted, followed, step, steps, feedCall}
+use Rattle.printing.proofs.Cases.{by-cond, both-cond}
 use Rattle.text.proofs.StepCases.{Reading, StepCase, done, ended, last, waits, far, newline, unended, holds, step-case}
 use Rattle.text.proofs.Steps.{steps-keep}
 

@@ -11,7 +11,7 @@ use Rattle.outline.specs.declared.Sheet.{Sheet}
 use Rattle.outline.specs.WalkCalls.{closed, newSheet}
 use Rattle.forms.specs.Grammar.{formOf}
 use Rattle.text.specs.Program.{Line, linesFrom, tooFar, carryOut, outputOf, program}
-use Rattle.text.proofs.Cases.{both-cond}
+use Rattle.printing.proofs.Cases.{both-cond}
 use Rattle.text.proofs.Lines.{line}
 use Rattle.text.proofs.TooFar.{beyond, far-bytes, near-bytes, far-line, held-far}
 

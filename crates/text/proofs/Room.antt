@@ -22,14 +22,16 @@ use Rattle.outline.proofs.Limits.{exceed-fit}
 use Rattle.text.specs.declared.State.{State}
 use Rattle.forms.specs.Grammar.{Form, begin, end, abandon, point, other, formOf}
 use Rattle.printing.specs.Output.{refusalLine}
+use Rattle.printing.specs.Put.{lineRoom}
 use Rattle.text.specs.Program.{Carried, carriedWalk, carriedEnd, carryOut}
-use Rattle.text.specs.Stream.{Step, lineRoom, heldBytes, lineLength, whole, step, feedCall}
-use Rattle.text.proofs.Cases.{by-cond}
+use Rattle.forms.specs.ReadForm.{lineLength}
+use Rattle.text.specs.Stream.{Step, heldBytes, whole, step, feedCall}
+use Rattle.printing.proofs.Cases.{by-cond}
 use Rattle.text.proofs.Lines.{lineSize}
 use Rattle.text.proofs.TooFar.{near-lines}
 use Rattle.text.proofs.StepCases.{Near, StepCase, done, ended, last, waits, far, newline, unended, holds, step-case}
 use Rattle.text.proofs.Steps.{steps-keep}
-use Rattle.text.proofs.LineLengths.{wide, outline-length, sheet-length, refusal-length}
+use Rattle.printing.proofs.LineLengths.{wide, outline-length, sheet-length, refusal-length}
 
 -- A sheet's count and totals fit their types.
 pub record SheetFits (s : Sheet) : Type 0 where
@@ -97,17 +99,17 @@ module _ (line : ℕ) (h : line ≤ 2 ^ 32) (s : Sheet) (f : SheetFits s) where
   -- Begin, point and abandon,
   walk-prints : (r : WalkOutcome) → r .number < 100 → Prints (carriedWalk line r s)
   unfolding carriedWalk
-  walk-prints r n = record { short = by-cond (λ l. length l ≤ lineRoom) (eqb (r .number) 0) {yes = []} {no = refusalLine line (r .number)} (λ e. omega arith) (λ e. refusal-length line (r .number) h n); sheet = f }
+  walk-prints r n = record { short = by-cond (λ l. length l ≤ lineRoom) (eqb (r .number) 0) {yes = []} {no = refusalLine line (r .number)} (λ e. omega arith) (λ e. refusal-length line (r .number) (omega arith) (omega arith)); sheet = f }
 
   -- end,
   end-prints : (w : Walk) → Prints (carriedEnd line (w .count) (endCall w s))
   unfolding carriedEnd endCall
   end-prints w =
-      by-cond Fine (unsoundWalk w || unsoundSheet s) (λ e. record { short = refusal-length line 28 h (omega arith); sheet = f }) (λ sound.
-      by-cond Fine (not (w .is_open)) (λ e. record { short = refusal-length line 21 h (omega arith); sheet = f }) (λ o.
-      by-cond Fine (ltb (w .count) 3) (λ e. record { short = refusal-length line 24 h (omega arith); sheet = f }) (λ n.
-      by-cond Fine (leb 64 (s .count)) (λ e. record { short = refusal-length line 25 h (omega arith); sheet = f }) (λ room.
-      by-cond Fine (exceed totalLimits (plus (s .totals) (addedTotals w))) (λ e. record { short = refusal-length line 26 h (omega arith); sheet = f }) (λ e.
+      by-cond Fine (unsoundWalk w || unsoundSheet s) (λ e. record { short = refusal-length line 28 (omega arith) (omega arith); sheet = f }) (λ sound.
+      by-cond Fine (not (w .is_open)) (λ e. record { short = refusal-length line 21 (omega arith) (omega arith); sheet = f }) (λ o.
+      by-cond Fine (ltb (w .count) 3) (λ e. record { short = refusal-length line 24 (omega arith) (omega arith); sheet = f }) (λ n.
+      by-cond Fine (leb 64 (s .count)) (λ e. record { short = refusal-length line 25 (omega arith) (omega arith); sheet = f }) (λ room.
+      by-cond Fine (exceed totalLimits (plus (s .totals) (addedTotals w))) (λ e. record { short = refusal-length line 26 (omega arith) (omega arith); sheet = f }) (λ e.
       let both = both-failed (unsoundWalk w) (unsoundSheet s) sound in
       let sums = exceed-fit totalLimits (plus (s .totals) (addedTotals w)) e in
       let count : s .count + 1 < 2 ^ 32 = omega (arith, leb-false 64 (s .count) room) in
@@ -125,7 +127,7 @@ module _ (line : ℕ) (h : line ≤ 2 ^ 32) (s : Sheet) (f : SheetFits s) where
   line-prints begin w = walk-prints (beginCall w) (begin-small w)
   line-prints end w = end-prints w
   line-prints abandon w = walk-prints (abandonCall w) (abandon-small w)
-  line-prints other w = record { short = refusal-length line 9 h (omega arith); sheet = f }
+  line-prints other w = record { short = refusal-length line 9 (omega arith) (omega arith); sheet = f }
   line-prints (point x y) w = walk-prints (pointCall w (record { x = x; y = y })) (point-small w (record { x = x; y = y }))
 
 -- ---- steps and calls

@@ -9,8 +9,9 @@ use lib.Dec.{eqb, ltb, leb}
 use borrow.Author.Tests.{ltb-true, ltb-false, leb-true, leb-false, eqb-true, eqb-false}
 use Rattle.outline.specs.declared.Sheet.{Sheet}
 use Rattle.text.specs.declared.State.{State}
-use Rattle.text.specs.Stream.{Step, halted, closing, ending, whole, part, lineLength, lineStep, step}
-use Rattle.text.proofs.Cases.{by-cond, by-or, by-and}
+use Rattle.forms.specs.ReadForm.{lineLength}
+use Rattle.text.specs.Stream.{Step, halted, closing, ending, whole, part, lineStep, step}
+use Rattle.printing.proofs.Cases.{by-cond, by-or, by-and}
 use Rattle.text.proofs.Lines.{lineSize}
 use Rattle.text.proofs.TooFar.{beyond}
 

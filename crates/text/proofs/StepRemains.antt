@@ -10,7 +10,8 @@ use Rattle.outline.specs.declared.Sheet.{Sheet}
 use Rattle.text.specs.declared.State.{State}
 use Rattle.printing.specs.Output.{sheetLine}
 use Rattle.text.specs.Program.{linesFrom, outputOf}
-use Rattle.text.specs.Stream.{Step, closing, ending, whole, heldBytes, lineLength, step, remaining}
+use Rattle.forms.specs.ReadForm.{lineLength}
+use Rattle.text.specs.Stream.{Step, closing, ending, whole, heldBytes, step, remaining}
 use Rattle.text.proofs.Lines.{lineSize, FirstLine, lines-part, lines-whole, lines-last}
 use Rattle.text.proofs.TooFar.{beyond, near-output, far-remains}
 use Rattle.text.proofs.LongLine.{long-held}

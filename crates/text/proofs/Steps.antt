@@ -6,9 +6,10 @@ use lib.ListN.{length, drop}
 use lib.Dec.{ltb}
 use borrow.Author.Tests.{ltb-false}
 use Rattle.outline.specs.declared.Sheet.{Sheet}
+use Rattle.printing.specs.Put.{lineRoom}
 use Rattle.text.specs.declared.State.{State}
-use Rattle.text.specs.Stream.{Step, lineRoom, halted, followed, step, steps}
-use Rattle.text.proofs.Cases.{by-cond}
+use Rattle.text.specs.Stream.{Step, halted, followed, step, steps}
+use Rattle.printing.proofs.Cases.{by-cond}
 
 -- P says what becomes of a state, a sheet, a chunk and a room. It holds where nothing is done, of one step where there is room for a line, and of such a step
 -- with others after it, if it holds of those.

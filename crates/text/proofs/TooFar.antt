@@ -14,8 +14,8 @@ use Rattle.outline.specs.declared.Sheet.{Sheet}
 use Rattle.forms.specs.Grammar.{formOf}
 use Rattle.printing.specs.Output.{refusalLine, sheetLine}
 use Rattle.text.specs.Program.{Line, linesFrom, tooFar, carryOut, outputOf}
-use Rattle.text.specs.Stream.{lineLength}
-use Rattle.text.proofs.Cases.{by-cond}
+use Rattle.forms.specs.ReadForm.{lineLength}
+use Rattle.printing.proofs.Cases.{by-cond}
 use Rattle.text.proofs.Lines.{line, lineSize}
 
 -- The line after n lines, whose bytes so far end at the place x, is too far.

@@ -9,7 +9,9 @@ use Rattle.outline.specs.declared.Walk.{Walk}
 use Rattle.outline.specs.declared.Sheet.{Sheet}
 use Rattle.text.specs.declared.State.{State}
 use Rattle.forms.specs.Grammar.{formOf}
+use Rattle.forms.specs.ReadForm.{lineLength}
 use Rattle.printing.specs.Output.{refusalLine, sheetLine}
+use Rattle.printing.specs.Put.{lineRoom}
 use Rattle.text.specs.Program.{Carried, carryOut, outputOf, linesFrom}
 
 -- What a step or a call does: what it writes, how many bytes of the chunk it takes, and what it leaves.
@@ -19,15 +21,6 @@ pub record Step : Type 0 where
   pub state : State
   pub sheet : Sheet
   pub more : Bool
-
--- Room for the longest line of the output.
-abbrev pub lineRoom : ℕ
-lineRoom = 192
-
--- The bytes before the first newline, or all.
-unfoldable pub lineLength : List ℕ → ℕ
-lineLength [] = 0
-lineLength (b ∷ bs) = cond (eqb b 10) 0 (suc (lineLength bs))
 
 abbrev pub halted : State → Sheet → Step
 halted st s = record { output = []; used = 0; state = st; sheet = s; more = false }

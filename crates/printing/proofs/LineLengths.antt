@@ -8,6 +8,9 @@ use lib.Signed.{ltZ}
 use lib.Dec.{eqb, ltb}
 use borrow.Author.Tests.{lt-ltb}
 use Rattle.integers.proofs.Order.{pp, nn, pp-neg, nn-neg, sum-parts, natAbs-neg}
+use mir.Syntax.{w64}
+use mir.Val.{SFits}
+use Rattle.integers.proofs.SignedCode.{sfits-natAbs}
 use Rattle.outline.specs.declared.Totals.{Totals}
 use Rattle.outline.specs.declared.Sizes.{Sizes}
 use Rattle.outline.specs.declared.Sheet.{Sheet}
@@ -15,9 +18,9 @@ use Rattle.outline.specs.EdgeSums.{exceed, Fit}
 use Rattle.outline.specs.MapCall.{totalLimits}
 use Rattle.outline.proofs.Limits.{exceed-fit}
 use Rattle.centroid.specs.Centroid.{CentroidOutcome, isCentre, firstCentre, centre, centred, signedBy, outlineCentroidCall}
 use Rattle.printing.specs.Output.{digits, decimal, signed, field, totalsText, centreText, outlineLine, refusalLine, sheetLine}
-use Rattle.text.specs.Stream.{lineRoom}
-use Rattle.text.proofs.Cases.{by-cond}
+use Rattle.printing.specs.Put.{lineRoom}
+use Rattle.printing.proofs.Cases.{by-cond}
 
 -- ---- numbers
 
@@ -44,6 +47,9 @@ field-length k (negsuc n) h = omega (arith, digits-length (suc (suc n)) k (suc n
 -- The greatest size of a signed number of 64 bits, for each of the six.
 abbrev pub wide : Sizes
 wide = record { a2 = 2 ^ 63; x6 = 2 ^ 63; y6 = 2 ^ 63; xx12 = 2 ^ 63; xy24 = 2 ^ 63; yy12 = 2 ^ 63 }
+
+pub fit-wide : (t : Totals) → SFits w64 (t .a2) → SFits w64 (t .x6) → SFits w64 (t .y6) → SFits w64 (t .xx12) → SFits w64 (t .xy24) → SFits w64 (t .yy12) → Fit wide t
+fit-wide t a b c d e f = record { a2 = sfits-natAbs a; x6 = sfits-natAbs b; y6 = sfits-natAbs c; xx12 = sfits-natAbs d; xy24 = sfits-natAbs e; yy12 = sfits-natAbs f }
 
 -- Six numbers of 19 digits.
 pub totals-length : (t : Totals) → Fit wide t → length (totalsText t) ≤ 126
@@ -103,7 +109,7 @@ pub sheet-length : (s : Sheet) → s .count < 2 ^ 32 → Fit wide (s .totals) �
 unfolding sheetLine
 sheet-length s h w = simp length-append (omega (arith, natural-length 9 (s .count) (omega arith), totals-length (s .totals) w, centre-length (s .totals)))
 
--- R, for line numbers up to 2^32.
-pub refusal-length : (line refusal : ℕ) → line ≤ 2 ^ 32 → refusal < 100 → length (refusalLine line refusal) ≤ lineRoom
+-- R, for any two numbers of 64 bits.
+pub refusal-length : (line refusal : ℕ) → line < 2 ^ 64 → refusal < 2 ^ 64 → length (refusalLine line refusal) ≤ lineRoom
 unfolding refusalLine
-refusal-length line refusal h k = simp length-append (omega (arith, natural-length 9 line (omega arith), natural-length 1 refusal (omega arith)))
+refusal-length line refusal h k = simp length-append (omega (arith, natural-length 19 line (omega arith), natural-length 19 refusal (omega arith)))
