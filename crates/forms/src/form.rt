@@ -48,7 +48,7 @@ fn point_form(s: &[u8], at: usize) -> LineForm
 }
 
 // A line of the form at `at`, where as many bytes are left as the longest takes with its newline.
-pub fn whole_form(s: &[u8], at: usize) -> LineForm
+pub(crate) fn whole_form(s: &[u8], at: usize) -> LineForm
     requires { ⌜ at + 14 ≤ length (now s) ⌝ }
     ensures { λ r. ⌜ reading r ≡ lineFront formOf (drop at (now (s .entry))) at ⌝ }
 {

@@ -107,7 +107,7 @@ fn wide(b: u8) -> u32
     b as u32
 }
 
-pub fn read_number(s: &[u8], at: usize) -> NumberAt
+pub(crate) fn read_number(s: &[u8], at: usize) -> NumberAt
     requires { ⌜ at + 5 ≤ length (now s) ⌝ }
     ensures { λ r. ⌜ r ≡ numberAt (drop at (now (s .entry))) ⌝ }
 {
