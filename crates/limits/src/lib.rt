@@ -1,7 +1,9 @@
 // Tests of size that the calls share. Each takes every value of its types.
 ghost use mathlib.Core.Path.{_≡_};
 ghost use Rattle.outline.specs.EdgeSums.{over, exceed, outlineBounds};
+ghost use Rattle.outline.specs.ListCall.{outside};
 ghost use Rattle.outline.specs.MapCall.{totalLimits};
+use outline::Position;
 use outline::Sizes;
 use outline::Totals;
 
@@ -17,6 +19,16 @@ pub fn size_exceeds(z: i64, bound: u64) -> bool
         return true;
     }
     b < z
+}
+
+// Refusal 1: whether a coordinate is outside -2,000 to 2,000.
+pub fn position_outside(p: Position) -> bool
+    ensures { λ r. ⌜ r ≡ outside p ⌝ }
+{
+    if size_exceeds(p.x as i64, 2000) {
+        return true;
+    }
+    size_exceeds(p.y as i64, 2000)
 }
 
 // Whether some total is greater in size than its bound.
@@ -69,7 +81,7 @@ pub fn outside_bounds(t: Totals) -> bool
     totals_exceed(t, bounds)
 }
 
-// Whether some total is outside -10^18 to 10^18.
+// Whether some total is larger in size than a sheet may have.
 pub fn outside_limits(t: Totals) -> bool
     ensures { λ r. ⌜ r ≡ exceed totalLimits t ⌝ }
 {

@@ -1,5 +1,5 @@
 -- Document 01, "Maps" and the refusals 3, 4 and 5: affine maps of positions and of totals, and the outcome of the map call.
-use Prim.Native.Nat.{ℕ, _^_}
+use Prim.Native.Nat.{_^_}
 use mathlib.Core.Bool.{Bool, _||_, cond}
 use mathlib.Core.List.{List, map}
 use lib.IntN.{ℤ, pos, _+ℤ_, _-ℤ_, _*ℤ_}

@@ -1,5 +1,5 @@
 -- Document 01, "Cuts, starts and moves". Its "piece" is a closed polygon, given by its points; its "cut" splits a polygon along a chord, the line between two of its points.
-use Prim.Native.Nat.{ℕ, zero, suc, min, max}
+use Prim.Native.Nat.{ℕ, suc, min, max}
 use mathlib.Core.Bool.{Bool, not, _&&_, _||_, cond}
 use mathlib.Core.List.{List, [], _∷_, _++_, reverse}
 use lib.Dec.{ltb, eqb}

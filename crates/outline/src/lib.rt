@@ -1,4 +1,4 @@
-// Plain types that the definitions and every function on outlines share.
+// Plain types and values that the definitions and every function on outlines share.
 
 // A position in decimetres: x east, y north.
 pub struct Position {
@@ -15,6 +15,18 @@ pub struct Totals {
     pub xy24: i64,
     pub yy12: i64,
 }
+
+pub const ORIGIN: Position = Position { x: 0, y: 0 };
+
+// The totals of no edge.
+pub const ZEROS: Totals = Totals {
+    a2: 0,
+    x6: 0,
+    y6: 0,
+    xx12: 0,
+    xy24: 0,
+    yy12: 0,
+};
 
 // A size for each of the six totals: how great it may be, either sign.
 pub struct Sizes {
