@@ -1,4 +1,4 @@
--- A list that the call accepts, and one step of each loop over a list of numbers, by index.
+-- A list that the call accepts, and one step of the copy and of the sum over a list of numbers, by index.
 use mathlib.Core.Path.{_≡_, refl, sym, ap}
 use mathlib.Core.Bool.{false, _||_}
 use mathlib.Core.List.{List, [], _∷_, _++_}
@@ -6,8 +6,8 @@ use Prim.Native.Nat.{ℕ, zero, suc, _+_, _*_, _-_, _≤_, _<_}
 use native.Mathlib.Nat.{not-suc-le-zero, le-of-suc-le-suc}
 use native.Mathlib.Numerals.{add-one}
 use native.Mathlib.Omega.{arith}
-use lib.ListN.{length, getD, take, drop, set, drop-of-length-le}
-use lib.Seq.{drop-cons, take-length}
+use lib.ListN.{length, getD, take, drop, set}
+use lib.Seq.{take-length}
 use lib.IntN.{ℤ, pos}
 use Rattle.outline.specs.declared.Position.{Position}
 use Rattle.outline.specs.declared.Totals.{Totals}
@@ -33,16 +33,6 @@ point-inside zs k o h e = rw e (not-outside (getD (points zs) k origin) (all-at 
 -- The sum of the first edges can be added to.
 pub sum-within : (zs : List ℤ) (k : ℕ) {t : Totals} → OutlineList zs → k ≤ length (points zs) → t ≡ totalsOver (openEdges (take k (points zs))) → exceed totalLimits t ≡ false
 sum-within zs k {t} o h e = let few = o .outline .few in rw e (share-within k (totalsOver (openEdges (take k (points zs)))) (omega arith) (first-fit k (points zs) h (o .outline .inside)))
-
--- ---- the search for a point outside the limits
-
-pub outside-next : (ps : List Position) (k : ℕ) (d : Position) → k < length ps → anyOutside (drop k ps) ≡ (outside (getD ps k d) || anyOutside (drop (k + 1) ps))
-unfolding anyOutside
-outside-next ps k d h = rw (add-one, drop-cons ps k d)
-
-pub outside-end : (ps : List Position) (k : ℕ) → length ps ≤ k → anyOutside (drop k ps) ≡ false
-unfolding anyOutside
-outside-end ps k h = rw (drop-of-length-le ps h)
 
 -- ---- the copy to the front of a buffer
 

@@ -6,20 +6,14 @@ use lib.Dec.{eqb}
 use Rattle.outline.specs.declared.Totals.{Totals}
 use Rattle.survey.specs.declared.list.OutlineAnswer.{OutlineAnswer}
 use Rattle.survey.specs.declared.list.OutlineAnswer.the-variants as outline
-use Rattle.survey.specs.declared.walk.BeginAnswer.{BeginAnswer}
-use Rattle.survey.specs.declared.walk.BeginAnswer.the-variants as begin
-use Rattle.survey.specs.declared.walk.BeginReply.{BeginReply}
 use Rattle.survey.specs.declared.walk.PointAnswer.{PointAnswer}
 use Rattle.survey.specs.declared.walk.PointAnswer.the-variants as point
 use Rattle.survey.specs.declared.walk.PointReply.{PointReply}
 use Rattle.survey.specs.declared.walk.EndAnswer.{EndAnswer}
 use Rattle.survey.specs.declared.walk.EndAnswer.the-variants as end
 use Rattle.survey.specs.declared.walk.EndReply.{EndReply}
-use Rattle.survey.specs.declared.walk.AbandonAnswer.{AbandonAnswer}
-use Rattle.survey.specs.declared.walk.AbandonAnswer.the-variants as abandon
-use Rattle.survey.specs.declared.walk.AbandonReply.{AbandonReply}
 use Rattle.survey.specs.ListAnswer.{reading}
-use Rattle.survey.specs.WalkAnswers.{beginNumber, beginReading, pointNumber, pointReading, endNumber, endTotals, endReading, abandonNumber, abandonReading}
+use Rattle.survey.specs.WalkAnswers.{pointNumber, pointReading, endNumber, endTotals, endReading}
 
 -- ---- the call on a whole list
 
@@ -33,19 +27,6 @@ outline-back outline.OutsideLimits = refl
 
 pub reading-one-to-one : (a b : OutlineAnswer) → reading a ≡ reading b → a ≡ b
 reading-one-to-one a b e = sym (outline-back a) ∙ ap (λ r. outlineOf (r .number) (r .totals)) e ∙ outline-back b
-
--- ---- begin
-
-abbrev beginOf : ℕ → BeginAnswer
-beginOf n = cond (eqb n 28) begin.Unsound (cond (eqb n 22) begin.AlreadyOpen begin.Accepted)
-
-begin-back : (a : BeginAnswer) → beginOf (beginNumber a) ≡ a
-begin-back begin.Accepted = refl
-begin-back begin.Unsound = refl
-begin-back begin.AlreadyOpen = refl
-
-pub begin-reading-one-to-one : (r s : BeginReply) → beginReading r ≡ beginReading s → r ≡ s
-begin-reading-one-to-one r s e = λ i. record { answer = (sym (begin-back (r .answer)) ∙ ap (λ o. beginOf (o .number)) e ∙ begin-back (s .answer)) i; walk = e i .walk }
 
 -- ---- point
 
@@ -77,16 +58,3 @@ end-back end.SheetExceeded = refl
 
 pub end-reading-one-to-one : (r s : EndReply) → endReading r ≡ endReading s → r ≡ s
 end-reading-one-to-one r s e = λ i. record { answer = (sym (end-back (r .answer)) ∙ ap (λ o. endOf (o .number) (o .totals)) e ∙ end-back (s .answer)) i; walk = e i .walk; sheet = e i .sheet }
-
--- ---- abandon
-
-abbrev abandonOf : ℕ → AbandonAnswer
-abandonOf n = cond (eqb n 28) abandon.Unsound (cond (eqb n 21) abandon.NotOpen abandon.Accepted)
-
-abandon-back : (a : AbandonAnswer) → abandonOf (abandonNumber a) ≡ a
-abandon-back abandon.Accepted = refl
-abandon-back abandon.Unsound = refl
-abandon-back abandon.NotOpen = refl
-
-pub abandon-reading-one-to-one : (r s : AbandonReply) → abandonReading r ≡ abandonReading s → r ≡ s
-abandon-reading-one-to-one r s e = λ i. record { answer = (sym (abandon-back (r .answer)) ∙ ap (λ o. abandonOf (o .number)) e ∙ abandon-back (s .answer)) i; walk = e i .walk }

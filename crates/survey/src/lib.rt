@@ -1,55 +1,56 @@
-// The code on outlines. Here is what the call on a whole list and the calls of a walk share: the limits, the terms of an edge, and sums of totals.
+// The code on outlines. Here is what the call on a whole list and the calls of a walk share: the terms of an edge, and sums of totals.
 ghost use mathlib.Core.Path.{_≡_};
 ghost use mathlib.Core.Bool.{false};
-ghost use Rattle.outline.specs.EdgeSums.{exceed, plus};
+ghost use lib.IntN.{pos, _+ℤ_, _*ℤ_};
+ghost use Rattle.outline.specs.EdgeSums.{over, exceed, plus};
 ghost use Rattle.outline.specs.ListCall.{outside};
 ghost use Rattle.outline.specs.MapCall.{totalLimits};
 ghost use Rattle.outline.specs.WalkCalls.{edgeTotals};
 
-mod lent;
 mod list;
-mod sound;
 mod walk;
 
-pub use lent::point_by;
-pub use lent::point_in;
-use limits::size_exceeds;
 pub use list::OutlineAnswer;
 pub use list::outline_totals;
 use outline::Position;
 use outline::Totals;
-pub use walk::AbandonAnswer;
-pub use walk::AbandonReply;
-pub use walk::BeginAnswer;
-pub use walk::BeginReply;
 pub use walk::EndAnswer;
 pub use walk::EndReply;
 pub use walk::PointAnswer;
 pub use walk::PointReply;
-pub use walk::abandon;
-pub use walk::begin;
 pub use walk::end;
-pub use walk::new_sheet;
-pub use walk::new_walk;
 pub use walk::point;
 
-const ZEROS: Totals = Totals {
-    a2: 0,
-    x6: 0,
-    y6: 0,
-    xx12: 0,
-    xy24: 0,
-    yy12: 0,
-};
-
-// Refusal 1.
-fn outside_limits(p: Position) -> bool
-    ensures { λ r. ⌜ r ≡ outside p ⌝ }
+// The term of X6 from x and p, of Y6 from y and q, with the cross product c.
+fn first_term(s: i64, t: i64, c: i64) -> i64
+    requires { ⌜ over 2000 s ≡ false ⌝ }
+    requires { ⌜ over 2000 t ≡ false ⌝ }
+    requires { ⌜ over 8000000 c ≡ false ⌝ }
+    ensures { λ r. ⌜ r ≡ (s +ℤ t) *ℤ c ⌝ }
 {
-    if size_exceeds(p.x as i64, 2000) {
-        return true;
-    }
-    size_exceeds(p.y as i64, 2000)
+    (s + t) * c
+}
+
+// The term of XX12 from x and p, of YY12 from y and q.
+fn second_term(s: i64, t: i64, c: i64) -> i64
+    requires { ⌜ over 2000 s ≡ false ⌝ }
+    requires { ⌜ over 2000 t ≡ false ⌝ }
+    requires { ⌜ over 8000000 c ≡ false ⌝ }
+    ensures { λ r. ⌜ r ≡ (s *ℤ s +ℤ s *ℤ t +ℤ t *ℤ t) *ℤ c ⌝ }
+{
+    (s * s + s * t + t * t) * c
+}
+
+// The term of XY24.
+fn mixed_term(x: i64, y: i64, p: i64, q: i64, c: i64) -> i64
+    requires { ⌜ over 2000 x ≡ false ⌝ }
+    requires { ⌜ over 2000 y ≡ false ⌝ }
+    requires { ⌜ over 2000 p ≡ false ⌝ }
+    requires { ⌜ over 2000 q ≡ false ⌝ }
+    requires { ⌜ over 8000000 c ≡ false ⌝ }
+    ensures { λ r. ⌜ r ≡ (pos 2 *ℤ x *ℤ y +ℤ x *ℤ q +ℤ p *ℤ y +ℤ pos 2 *ℤ p *ℤ q) *ℤ c ⌝ }
+{
+    (2 * x * y + x * q + p * y + 2 * p * q) * c
 }
 
 // The six terms of the edge from a to b.
@@ -65,11 +66,11 @@ fn edge_between(a: Position, b: Position) -> Totals
     let c = x * q - p * y;
     Totals {
         a2: c,
-        x6: (x + p) * c,
-        y6: (y + q) * c,
-        xx12: (x * x + x * p + p * p) * c,
-        xy24: (2 * x * y + x * q + p * y + 2 * p * q) * c,
-        yy12: (y * y + y * q + q * q) * c,
+        x6: first_term(x, p, c),
+        y6: first_term(y, q, c),
+        xx12: second_term(x, p, c),
+        xy24: mixed_term(x, y, p, q, c),
+        yy12: second_term(y, q, c),
     }
 }
 

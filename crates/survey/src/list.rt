@@ -2,65 +2,23 @@
 ghost use mathlib.Core.Path.{_≡_};
 ghost use mathlib.Core.Bool.{false};
 ghost use mathlib.Core.List.{_++_};
-ghost use Prim.Native.Nat.{_+_, _*_, _%_, _<_, _≤_};
-ghost use lib.ListN.{length, getD, drop};
+ghost use Prim.Native.Nat.{_%_, _≤_};
+ghost use lib.ListN.{length, drop};
 ghost use Rattle.outline.specs.EdgeSums.{outlineTotals};
 ghost use Rattle.outline.specs.ListCall.{points as pointsOf, wrongLength, anyOutside, listCall};
-ghost use Rattle.outline.specs.WalkCalls.{origin};
 ghost use Rattle.survey.specs.ListAnswer.{reading};
-use crate::ZEROS;
 use crate::add;
 use crate::edge_between;
-use crate::outside_limits;
-use outline::Position;
 use outline::Totals;
+use outline::ZEROS;
+use point_list::any_outside;
+use point_list::position_at;
+use point_list::wrong_length;
 
 pub enum OutlineAnswer {
     Accepted(Totals),
     WrongLength,
     OutsideLimits,
-}
-
-// Refusal 2.
-fn wrong_length(points: &[i32]) -> bool
-    ensures { λ r. ⌜ r ≡ wrongLength (now (points .entry)) ⌝ }
-{
-    let n = points.len();
-    if n % 2 == 1 {
-        return true;
-    }
-    let count = n / 2;
-    if count < 3 {
-        return true;
-    }
-    1024 < count
-}
-
-// Point k of the list.
-fn position_at(points: &[i32], k: usize) -> Position
-    requires { ⌜ 2 * k + 1 < length (now points) ⌝ }
-    ensures { λ r. ⌜ r ≡ getD (pointsOf (now (points .entry))) k origin ⌝ }
-{
-    Position {
-        x: points[2 * k],
-        y: points[2 * k + 1],
-    }
-}
-
-// Whether some point of the list is outside the limits.
-fn any_outside(points: &[i32]) -> bool
-    ensures { λ r. ⌜ r ≡ anyOutside (pointsOf (now (points .entry))) ⌝ }
-{
-    let n = points.len() / 2;
-    let mut k = 0;
-    while k < n {
-        let p = position_at(points, k);
-        if outside_limits(p) {
-            return true;
-        }
-        k += 1;
-    }
-    false
 }
 
 // The points to the front of the buffer; what lies behind them stays.

@@ -1,31 +1,21 @@
-// The four calls of a walk, by value: each is handed the walk, and end the sheet too, and hands back what it leaves.
+// The calls of a walk that add an edge, by value: each is handed the walk, and end the sheet too, and hands back what it leaves.
 ghost use mathlib.Core.Path.{_≡_};
 ghost use mathlib.Core.Bool.{true, false};
 ghost use Prim.Native.Nat.{_<_, _≤_};
 ghost use Rattle.outline.specs.ListCall.{outside};
-ghost use Rattle.outline.specs.WalkCalls.{closed, newSheet, extended, closedTotals, unsoundWalk, beginCall, pointCall, endCall, abandonCall};
-ghost use Rattle.survey.specs.WalkAnswers.{beginReading, pointReading, endReading, abandonReading};
-use crate::ZEROS;
+ghost use Rattle.outline.specs.WalkCalls.{extended, closedTotals, unsoundWalk, unsoundSheet, pointCall, endCall};
+ghost use Rattle.survey.specs.WalkAnswers.{pointReading, endReading};
 use crate::add;
 use crate::edge_between;
-use crate::outside_limits;
-use crate::sound::unsound_sheet;
-use crate::sound::unsound_walk;
+use begin_abandon::new_walk;
+use limits::outside_limits;
+use limits::position_outside;
 use outline::Position;
 use outline::Sheet;
 use outline::Totals;
 use outline::Walk;
-
-pub enum BeginAnswer {
-    Accepted,
-    Unsound,
-    AlreadyOpen,
-}
-
-pub struct BeginReply {
-    pub answer: BeginAnswer,
-    pub walk: Walk,
-}
+use soundness::unsound_sheet;
+use soundness::unsound_walk;
 
 pub enum PointAnswer {
     Accepted,
@@ -53,72 +43,6 @@ pub struct EndReply {
     pub answer: EndAnswer,
     pub walk: Walk,
     pub sheet: Sheet,
-}
-
-pub enum AbandonAnswer {
-    Accepted,
-    Unsound,
-    NotOpen,
-}
-
-pub struct AbandonReply {
-    pub answer: AbandonAnswer,
-    pub walk: Walk,
-}
-
-const ORIGIN: Position = Position { x: 0, y: 0 };
-
-const CLOSED: Walk = Walk {
-    is_open: false,
-    count: 0,
-    first: ORIGIN,
-    last: ORIGIN,
-    totals: ZEROS,
-};
-
-const OPENED: Walk = Walk {
-    is_open: true,
-    count: 0,
-    first: ORIGIN,
-    last: ORIGIN,
-    totals: ZEROS,
-};
-
-// A walk that was never opened.
-pub fn new_walk() -> Walk
-    ensures { λ r. ⌜ r ≡ closed ⌝ }
-{
-    CLOSED
-}
-
-pub fn new_sheet() -> Sheet
-    ensures { λ r. ⌜ r ≡ newSheet ⌝ }
-{
-    Sheet {
-        count: 0,
-        totals: ZEROS,
-    }
-}
-
-pub fn begin(w: Walk) -> BeginReply
-    ensures { λ r. ⌜ beginReading r ≡ beginCall w ⌝ }
-{
-    if unsound_walk(w) {
-        return BeginReply {
-            answer: BeginAnswer::Unsound,
-            walk: w,
-        };
-    }
-    if w.is_open {
-        return BeginReply {
-            answer: BeginAnswer::AlreadyOpen,
-            walk: w,
-        };
-    }
-    BeginReply {
-        answer: BeginAnswer::Accepted,
-        walk: OPENED,
-    }
 }
 
 // The walk with one point more.
@@ -168,7 +92,7 @@ pub fn point(w: Walk, x: i32, y: i32) -> PointReply
         };
     }
     let p = Position { x, y };
-    if outside_limits(p) {
+    if position_outside(p) {
         return PointReply {
             answer: PointAnswer::OutsideLimits,
             walk: w,
@@ -211,13 +135,37 @@ fn refused_end(answer: EndAnswer, held: Walk, sheet: Sheet) -> EndReply
     }
 }
 
+// Adds the outline of a walk to the sheet, or refuses with 26.
+fn add_to_sheet(w: Walk, s: Sheet) -> EndReply
+    requires { ⌜ unsoundWalk w ≡ false ⌝ }
+    requires { ⌜ unsoundSheet s ≡ false ⌝ }
+    requires { ⌜ w .is_open ≡ true ⌝ }
+    requires { ⌜ 3 ≤ w .count ⌝ }
+    requires { ⌜ s .count < 64 ⌝ }
+    ensures { λ r. ⌜ endReading r ≡ endCall w s ⌝ }
+{
+    let added = closed_totals(w);
+    let earlier = s.totals;
+    let sums = add(earlier, added);
+    if outside_limits(sums) {
+        return refused_end(EndAnswer::SheetExceeded, w, s);
+    }
+    let walk = new_walk();
+    let sheet = Sheet {
+        count: s.count + 1,
+        totals: sums,
+    };
+    EndReply {
+        answer: EndAnswer::Accepted(added),
+        walk,
+        sheet,
+    }
+}
+
 pub fn end(w: Walk, s: Sheet) -> EndReply
     ensures { λ r. ⌜ endReading r ≡ endCall w s ⌝ }
 {
-    if unsound_walk(w) {
-        return refused_end(EndAnswer::Unsound, w, s);
-    }
-    if unsound_sheet(s) {
+    if unsound_walk(w) | unsound_sheet(s) {
         return refused_end(EndAnswer::Unsound, w, s);
     }
     if !w.is_open {
@@ -229,41 +177,5 @@ pub fn end(w: Walk, s: Sheet) -> EndReply
     if 64 <= s.count {
         return refused_end(EndAnswer::SheetFull, w, s);
     }
-    let added = closed_totals(w);
-    let earlier = s.totals;
-    let sums = add(earlier, added);
-    if limits::outside_limits(sums) {
-        return refused_end(EndAnswer::SheetExceeded, w, s);
-    }
-    let sheet = Sheet {
-        count: s.count + 1,
-        totals: sums,
-    };
-    EndReply {
-        answer: EndAnswer::Accepted(added),
-        walk: CLOSED,
-        sheet,
-    }
-}
-
-pub fn abandon(w: Walk) -> AbandonReply
-    ensures { λ r. ⌜ abandonReading r ≡ abandonCall w ⌝ }
-{
-    if unsound_walk(w) {
-        return AbandonReply {
-            answer: AbandonAnswer::Unsound,
-            walk: w,
-        };
-    }
-    if !w.is_open {
-        return AbandonReply {
-            answer: AbandonAnswer::NotOpen,
-            walk: w,
-        };
-    }
-    let walk = CLOSED;
-    AbandonReply {
-        answer: AbandonAnswer::Accepted,
-        walk,
-    }
+    add_to_sheet(w, s)
 }

@@ -1,6 +1,9 @@
 -- `survey::walk::extended_walk` meets its contract: the edge from a sound walk's last point to a point within the limits can be added.
+use mathlib.Core.Path.{_∙_, ap}
+use Prim.Native.Nat.{_+_}
 use borrow.Author.Needs.{needs}
 use borrow.Author.Tests.{eq-eqb, ne-eqb}
+use Rattle.outline.specs.EdgeSums.{plus}
 use Rattle.outline.specs.WalkCalls.{extended}
 use Rattle.survey.proofs.Sizes.{edge-within}
 use Rattle.survey.proofs.SoundWalks.{SoundOpen, sound-open, walked-within}
@@ -28,7 +31,11 @@ add-t9 c = search needs
 
 returns-2 : tie.Need-returns-2
 unfolding extended
-returns-2 c = rw (ne-eqb _ _ (c .before .before .before .before .before .if1 .left), c .before .add .ensures, c .before .before .edge-between .ensures)
+returns-2 c =
+    let s = c .before .before .before .before .before .before .before .before in
+    let w = s .args .w in
+    let sum = c .before .add .ensures ∙ ap (plus (w .totals)) (c .before .before .edge-between .ensures) in
+    rw (ne-eqb _ _ (c .before .before .before .before .before .if1 .left)) (λ i. record { is_open = w .is_open; count = w .count + 1; first = w .first; last = s .args .p; totals = sum i })
 
 pub extended-walk-spec : {M : Type 1} → statement M
 extended-walk-spec = tie.close (tie.spec returns edge-between-requires add-requires add-t9 returns-2)

@@ -1,6 +1,7 @@
 -- `survey::walk::point` meets its contract: the tests stand in the definition's order.
 use mathlib.Core.Path.{_≡_, subst₂}
 use mathlib.Core.Bool.{false}
+use native.Mathlib.Omega.{arith}
 use borrow.Author.Needs.{needs}
 use borrow.Author.Tests.{not-false, le-leb, lt-leb}
 use lib.IntN.{ℤ}
@@ -36,26 +37,26 @@ returns-2 : tie.Need-returns-2
 unfolding pointCall
 returns-2 c = rw (not-28 (c .before .before), c .if2 .taken)
 
-outside-limits-requires : tie.Need-outside-limits-requires
-outside-limits-requires c κs = search needs
+position-outside-requires : tie.Need-position-outside-requires
+position-outside-requires c κs = search needs
 
 returns-3 : tie.Need-returns-3
 unfolding pointCall
-returns-3 c = plain (c .before .before .before .before .before .before) (rw (not-28 (c .before .before .before .before), c .before .before .if2 .left, tells (c .before .outside-limits .ensures) (c .if3 .taken)))
+returns-3 c = plain (c .before .before .before .before .before .before) (rw (not-28 (c .before .before .before .before), c .before .before .if2 .left, tells (c .before .position-outside .ensures) (c .if3 .taken)))
 
 not-1 : (c : tie.Else3) → outside (read (c .before .before .before .before .before .before)) ≡ false
-not-1 c = tells (c .before .outside-limits .ensures) (c .if3 .left)
+not-1 c = tells (c .before .position-outside .ensures) (c .if3 .left)
 
 returns-4 : tie.Need-returns-4
 unfolding pointCall
-returns-4 c = plain (c .before .before .before .before .before .before .before .before) (rw (not-28 (c .before .before .before .before .before .before), c .before .before .before .before .if2 .left, not-1 (c .before .before), le-leb _ _ (c .if4 .taken)))
+returns-4 c = plain (c .before .before .before .before .before .before .before .before) (rw (not-28 (c .before .before .before .before .before .before), c .before .before .before .before .if2 .left, not-1 (c .before .before), le-leb 1024 (c .before .before .before .before .before .before .before .before .args .w .count) (omega (arith, c .if4 .taken))))
 
 extended-walk-requires : tie.Need-extended-walk-requires
 extended-walk-requires c κs = (not-28 (c .before .before .before .before .before .before), (not-false (c .before .before .before .before .before .before .before .before .args .w .is_open) (c .before .before .before .before .if2 .left), (c .if4 .left, not-1 (c .before .before))))
 
 returns-5 : tie.Need-returns-5
 unfolding pointCall
-returns-5 c = plain (c .before .before .before .before .before .before .before .before .before) (rw (not-28 (c .before .before .before .before .before .before .before), c .before .before .before .before .before .if2 .left, not-1 (c .before .before .before), lt-leb _ _ (c .before .if4 .left), c .extended-walk .ensures))
+returns-5 c = plain (c .before .before .before .before .before .before .before .before .before) (rw (not-28 (c .before .before .before .before .before .before .before), c .before .before .before .before .before .if2 .left, not-1 (c .before .before .before), lt-leb 1024 (c .before .before .before .before .before .before .before .before .before .args .w .count) (omega (arith, c .before .if4 .left)), c .extended-walk .ensures))
 
 pub point-spec : {M : Type 1} → statement M
 point-spec =
@@ -64,7 +65,7 @@ point-spec =
     unsound-walk-requires
     returns
     returns-2
-    outside-limits-requires
+    position-outside-requires
     returns-3
     returns-4
     extended-walk-requires

@@ -1,0 +1,26 @@
+// A walk that the caller holds and lends: the one call on it that is made for every point. Thin: the walk is copied out, `point` is called, and what
+// it leaves is stored back.
+ghost use mathlib.Core.Path.{_≡_};
+ghost use Rattle.outline.specs.WalkCalls.{pointCall};
+ghost use Rattle.survey.specs.WalkAnswers.{pointReading};
+use outline::Walk;
+use survey::PointAnswer;
+use survey::PointReply;
+use survey::point;
+
+pub fn point_in(w: &mut Walk, x: i32, y: i32) -> PointAnswer
+    ensures { λ r. ⌜ pointReading (record { answer = r; walk = now (w .exit) }) ≡ pointCall (now (w .entry)) (record { x = x; y = y }) ⌝ }
+{
+    let s = point(*w, x, y);
+    *w = s.walk;
+    s.answer
+}
+
+// The same by value, for callers that hold the walk as a value.
+pub fn point_by(w: Walk, x: i32, y: i32) -> PointReply
+    ensures { λ r. ⌜ pointReading r ≡ pointCall w (record { x = x; y = y }) ⌝ }
+{
+    let mut v = w;
+    let answer = point_in(&mut v, x, y);
+    PointReply { answer, walk: v }
+}

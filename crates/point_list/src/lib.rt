@@ -1,0 +1,52 @@
+// A list of numbers, x and y in turn, as points: its length, its points by index, and whether one is outside the limits. Each function takes every list.
+ghost use mathlib.Core.Path.{_≡_};
+ghost use lib.ListN.{getD};
+ghost use Rattle.outline.specs.ListCall.{points as pointsOf, wrongLength, anyOutside};
+ghost use Rattle.outline.specs.WalkCalls.{origin};
+use limits::position_outside;
+use outline::ORIGIN;
+use outline::Position;
+
+// Refusal 2.
+pub fn wrong_length(points: &[i32]) -> bool
+    ensures { λ r. ⌜ r ≡ wrongLength (now (points .entry)) ⌝ }
+{
+    let n = points.len();
+    if n % 2 == 1 {
+        return true;
+    }
+    let count = n / 2;
+    if count < 3 {
+        return true;
+    }
+    1024 < count
+}
+
+// Point k of the list; the origin where it has fewer points.
+pub fn position_at(points: &[i32], k: usize) -> Position
+    ensures { λ r. ⌜ r ≡ getD (pointsOf (now (points .entry))) k origin ⌝ }
+{
+    if points.len() / 2 <= k {
+        return ORIGIN;
+    }
+    Position {
+        x: points[2 * k],
+        y: points[2 * k + 1],
+    }
+}
+
+// Whether some point of the list is outside the limits.
+pub fn any_outside(points: &[i32]) -> bool
+    ensures { λ r. ⌜ r ≡ anyOutside (pointsOf (now (points .entry))) ⌝ }
+{
+    let n = points.len() / 2;
+    let mut k = 0;
+    while k < n {
+        let p = position_at(points, k);
+        if position_outside(p) {
+            return true;
+        }
+        k += 1;
+    }
+    false
+}
