@@ -1,5 +1,5 @@
 -- The map call by the outcome of its three tests, and the mapped totals as the brackets, each times the determinant.
-use mathlib.Core.Path.{_≡_, refl, ap₂}
+use mathlib.Core.Path.{_≡_, ap₂}
 use mathlib.Core.Bool.{Bool, cond}
 use lib.IntN.{ℤ}
 use Rattle.outline.specs.declared.Totals.{Totals}

@@ -2,9 +2,7 @@
 use mathlib.Core.List.{List, [], _∷_}
 use Prim.Native.Nat.{ℕ}
 use lib.IntN.{ℤ}
-use Rattle.integers.proofs.Ring.{here, there}
 use Rattle.integers.proofs.Bounds.{Within}
-use Rattle.integers.proofs.SignedCode.{back64, times, plus, lit-pos, var}
 use Rattle.outline.specs.declared.Totals.{Totals}
 use Rattle.outline.specs.EdgeSums.{Fit, outlineBounds}
 
@@ -16,6 +14,3 @@ totalBounds = outlineBounds .a2 ∷ outlineBounds .x6 ∷ outlineBounds .y6 ∷ 
 
 pub totals-within : {t : Totals} → Fit outlineBounds t → Within (totals t) totalBounds
 totals-within k = (k .a2, (k .x6, (k .y6, (k .xx12, (k .xy24, (k .yy12, tt))))))
-
--- what the brackets are made of: the operations first, so that a search does not try every variable at each
-pub ruleset operations = (back64, times, plus, lit-pos, var, here, there)

@@ -1,7 +1,7 @@
 -- What the refusals leave: where 3, 4 or 5 does not refuse, the map or the totals are within the limits, and the determinant is at most 8 in size.
 use mathlib.Core.Path.{_≡_}
 use mathlib.Core.Bool.{false}
-use mathlib.Core.List.{List, [], _∷_}
+use mathlib.Core.List.{[], _∷_}
 use Prim.Native.Nat.{_≤_}
 use lib.IntN.{natAbs}
 use Rattle.integers.proofs.Ring.{quote}

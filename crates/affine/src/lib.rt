@@ -1,7 +1,8 @@
 // The map call on six totals: document 01, "Maps", with refusals 3, 4 and 5.
 ghost use mathlib.Core.Path.{_≡_};
+ghost use mathlib.Core.Bool.{false};
 ghost use Prim.Native.Nat.{_≤_, _^_};
-ghost use lib.IntN.{natAbs, _*ℤ_};
+ghost use lib.IntN.{natAbs, _+ℤ_, _*ℤ_};
 ghost use Rattle.outline.specs.EdgeSums.{over, exceed, Fit, outlineBounds};
 ghost use Rattle.outline.specs.MapCall.{disallowed, determinant, firstMoment, secondMoment, mixedMoment, brackets, scaled, totalLimits, mapCall};
 ghost use Rattle.affine.specs.Answer.{reading};
@@ -47,25 +48,45 @@ fn first_moment(a: i64, b: i64, e: i64, t: outline::Totals) -> i64
     a * t.x6 + b * t.y6 + 3 * e * t.a2
 }
 
-// The bracket of XX12 with a, b, e, and of YY12 with g, h, f: at most 2.82·10^18 in size.
+// The totals added up, each with a weight: at most 5.64·10^18 in size.
+fn weighted(xx12: i64, yy12: i64, xy24: i64, x6: i64, y6: i64, a2: i64, t: outline::Totals) -> i64
+    requires { ⌜ over 8 xx12 ≡ false ⌝ }
+    requires { ⌜ over 8 yy12 ≡ false ⌝ }
+    requires { ⌜ over 8 xy24 ≡ false ⌝ }
+    requires { ⌜ over 32000 x6 ≡ false ⌝ }
+    requires { ⌜ over 32000 y6 ≡ false ⌝ }
+    requires { ⌜ over 48000000 a2 ≡ false ⌝ }
+    requires { ⌜ Fit outlineBounds t ⌝ }
+    ensures { λ r. ⌜ r ≡ xx12 *ℤ t .xx12 +ℤ yy12 *ℤ t .yy12 +ℤ xy24 *ℤ t .xy24 +ℤ x6 *ℤ t .x6 +ℤ y6 *ℤ t .y6 +ℤ a2 *ℤ t .a2 ⌝ }
+{
+    xx12 * t.xx12 + yy12 * t.yy12 + xy24 * t.xy24 + x6 * t.x6 + y6 * t.y6 + a2 * t.a2
+}
+
+// The bracket of XX12 with a, b, e, and of YY12 with g, h, f.
 fn second_moment(a: i64, b: i64, e: i64, t: outline::Totals) -> i64
     requires { ⌜ RowWithin a b e ⌝ }
     requires { ⌜ Fit outlineBounds t ⌝ }
     ensures { λ r. ⌜ r ≡ secondMoment a b e t ⌝ }
 {
-    let second_order = a * a * t.xx12 + b * b * t.yy12 + a * b * t.xy24;
-    second_order + 4 * a * e * t.x6 + 4 * b * e * t.y6 + 6 * (e * e) * t.a2
+    weighted(a * a, b * b, a * b, 4 * a * e, 4 * b * e, 6 * (e * e), t)
 }
 
-// The bracket of XY24: at most 5.64·10^18 in size.
+// The bracket of XY24.
 fn mixed_moment(a: i64, b: i64, e: i64, g: i64, h: i64, f: i64, t: outline::Totals) -> i64
     requires { ⌜ RowWithin a b e ⌝ }
     requires { ⌜ RowWithin g h f ⌝ }
     requires { ⌜ Fit outlineBounds t ⌝ }
     ensures { λ r. ⌜ r ≡ mixedMoment a b e g h f t ⌝ }
 {
-    let second_order = 2 * a * g * t.xx12 + 2 * b * h * t.yy12 + (a * h + b * g) * t.xy24;
-    second_order + 4 * (g * e + a * f) * t.x6 + 4 * (h * e + b * f) * t.y6 + 12 * e * f * t.a2
+    weighted(
+        2 * a * g,
+        2 * b * h,
+        a * h + b * g,
+        4 * (g * e + a * f),
+        4 * (h * e + b * f),
+        12 * e * f,
+        t,
+    )
 }
 
 // What stands behind d in each of the six formulas.

@@ -16,7 +16,7 @@ emptyRun = record { row = 0; first = 0; length = 0 }
 
 -- ---- the rules
 
--- Refusal 6: row over 1,023, length 0, or first column plus length over 1,024.
+-- Refusal 6: the run is empty, or some cell of it would lie outside the grid of 1,024 rows and columns.
 unfoldable pub badRun : Run → Bool
 badRun r = ltb 1023 (r .row) || eqb (r .length) 0 || ltb 1024 (r .first + r .length)
 
@@ -24,11 +24,11 @@ unfoldable pub anyBad : List Run → Bool
 anyBad [] = false
 anyBad (r ∷ rs) = badRun r || anyBad rs
 
--- A run lies after an earlier one: on a higher row, or on the same row with its first column not below the earlier first column plus length.
+-- A run follows an earlier one further up, or in the same row where the earlier one has ended.
 unfoldable pub liesAfter : Run → Run → Bool
 liesAfter p r = ltb (p .row) (r .row) || eqb (p .row) (r .row) && leb (p .first + p .length) (r .first)
 
--- Refusal 7: a run does not lie after the one before.
+-- Refusal 7: two runs in turn that are not in this order.
 unfoldable pub disordered : List Run → Bool
 disordered [] = false
 disordered (p ∷ []) = false

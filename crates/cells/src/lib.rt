@@ -1,14 +1,14 @@
-// Document 01, "Cells": the sums of a region whose runs lie in the caller's own list. Time goes by the number of runs, not of cells.
+// Document 01, "Cells": the sums of a region over the runs that a caller lends. Time goes by the number of runs, not of cells.
 ghost use mathlib.Core.Path.{_≡_};
 ghost use mathlib.Core.Bool.{not};
-ghost use Prim.Native.Nat.{_≤_, _^_, min};
+ghost use Prim.Native.Nat.{_≤_, _^_};
 ghost use lib.IntN.{pos};
-ghost use lib.ListN.{take};
 ghost use Rattle.cells.specs.CellSums.{plus, sumsOver, cellsOf, indexSum, squareSum};
 ghost use Rattle.cells.specs.RegionCall.{badRun, liesAfter, Answers};
 ghost use Rattle.cells.specs.Scan.{noRuns, answerWith, addRun, InGrid, SumsWithin, HasRoom};
 
-// As many cells of a row as `length`, from the column `first` on.
+// As many cells of a row as `length`, from the column `first` on. Laid out as in C, whose callers lend lists of them.
+#[repr(C)]
 pub struct Run {
     pub row: u32,
     pub first: u32,
@@ -189,23 +189,4 @@ pub fn region_sums(runs: &[Run]) -> RegionAnswer
         i = i + 1;
     }
     scan.answer
-}
-
-// `count`, but no more than the 4,097 runs of an array.
-fn within_array(count: usize) -> usize
-    ensures { λ r. ⌜ r ≡ min count 4097 ⌝ }
-{
-    if 4097 < count {
-        return 4097;
-    }
-    count
-}
-
-// `region_sums` of the first `count` runs of an array, or of all of them if `count` is larger, for callers that hold their runs by value.
-// The array has room for one run more than is allowed.
-pub fn region_sums_of(runs: [Run; 4097], count: usize) -> RegionAnswer
-    ensures { λ r. ⌜ Answers (take count runs) r ⌝ }
-{
-    let n = within_array(count);
-    region_sums(&runs[..n])
 }

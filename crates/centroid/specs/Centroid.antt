@@ -45,7 +45,7 @@ unfoldable pub signedBy : ℤ → ℤ → ℤ
 signedBy a2 z = cond (ltZ a2 (pos 0)) (negℤ z) z
 
 -- Refusal 11: a total is greater in size than 10^18. Refusal 27: A2 is 0. Order: 11, 27.
--- Else, for an outline or a sheet, N is X6 or Y6 and D is 3×A2, both negated if A2 is negative.
+-- Else the quotients of an outline or a sheet: a first moment over three times the area total, signs turned so that the divisor is above 0.
 unfoldable pub outlineCentroidCall : Totals → CentroidOutcome
 outlineCentroidCall t =
     cond (exceed totalLimits t) (refused 11)
@@ -66,7 +66,7 @@ sumsOutside s =
     || outsideLimit (pos (10 ^ 18)) (s .xy)
     || outsideLimit (pos (10 ^ 18)) (s .yy)
 
--- Cells: N is the sum of x or of y, D is A. Refusal 27: A is 0. Order: 11, 27.
+-- The quotients of cells: the sum of an index over the number of cells; 27 where there are none, after 11.
 unfoldable pub regionCentroidCall : CellSums → CentroidOutcome
 regionCentroidCall s =
     cond (sumsOutside s) (refused 11)

@@ -3,8 +3,8 @@ use mathlib.Core.List.{List, _∷_}
 use Prim.Native.Nat.{ℕ}
 use lib.IntN.{ℤ}
 use Rattle.integers.proofs.Bounds.{Within}
-use Rattle.integers.proofs.SignedCode.{runs, run-fits}
-use Rattle.affine.proofs.Operands.{operations, totals, totalBounds, totals-within}
+use Rattle.integers.proofs.SignedCode.{code, runs, run-fits}
+use Rattle.affine.proofs.Operands.{totals, totalBounds, totals-within}
 use Rattle.affine.proofs.first_moment.Statement.{statement}
 use Rattle.affine.proofs.first_moment.Tie as tie
 
@@ -22,16 +22,16 @@ small s =
 returns : tie.Need-returns
 returns c =
     let s = c .before .before .before .before .before .before in
-    runs (ρ s) B (small s) (search operations depth 60 fits 20000) tt
+    runs (ρ s) B (small s) (search code depth 60 fits 20000) tt
 
 pub first-moment-spec : {M : Type 1} → statement M
 first-moment-spec =
     tie.close
     (tie.spec
-    (λ c. let s = c .before .before in run-fits (ρ s) B (small s) (search operations depth 60 fits 20000) tt)
-    (λ c. let s = c .before .before .before .before in run-fits (ρ s) B (small s) (search operations depth 60 fits 20000) tt)
-    (λ c. let s = c .before .before .before .before in run-fits (ρ s) B (small s) (search operations depth 60 fits 20000) tt)
-    (λ c. let s = c .before .before .before .before in run-fits (ρ s) B (small s) (search operations depth 60 fits 20000) tt)
-    (λ c. let s = c .before .before .before .before .before .before in run-fits (ρ s) B (small s) (search operations depth 60 fits 20000) tt)
-    (λ c. let s = c .before .before .before .before .before .before in run-fits (ρ s) B (small s) (search operations depth 60 fits 20000) tt)
+    (λ c. let s = c .before .before in run-fits (ρ s) B (small s) (search code depth 60 fits 20000) tt)
+    (λ c. let s = c .before .before .before .before in run-fits (ρ s) B (small s) (search code depth 60 fits 20000) tt)
+    (λ c. let s = c .before .before .before .before in run-fits (ρ s) B (small s) (search code depth 60 fits 20000) tt)
+    (λ c. let s = c .before .before .before .before in run-fits (ρ s) B (small s) (search code depth 60 fits 20000) tt)
+    (λ c. let s = c .before .before .before .before .before .before in run-fits (ρ s) B (small s) (search code depth 60 fits 20000) tt)
+    (λ c. let s = c .before .before .before .before .before .before in run-fits (ρ s) B (small s) (search code depth 60 fits 20000) tt)
     returns)

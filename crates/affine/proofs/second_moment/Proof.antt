@@ -1,10 +1,16 @@
--- `second_moment` is the bracket of a second moment: every step fits 64 bits, by the bounds of the map and of the totals.
+-- `second_moment` is the bracket of a second moment: the weights are made of a row of the map, within its limits.
+use mathlib.Core.Path.{_≡_, _∙_}
+use mathlib.Core.Bool.{false}
 use mathlib.Core.List.{List, _∷_}
 use Prim.Native.Nat.{ℕ}
+use lib.Dec.{T, leb}
 use lib.IntN.{ℤ}
+use mir.Facts.{toZ-ofZ}
 use Rattle.integers.proofs.Bounds.{Within}
-use Rattle.integers.proofs.SignedCode.{runs, run-fits}
-use Rattle.affine.proofs.Operands.{operations, totals, totalBounds, totals-within}
+use Rattle.integers.proofs.SignedCode.{Code, code, both, size, steps, runs, run-fits, run-within}
+use Rattle.outline.specs.EdgeSums.{over}
+use Rattle.outline.proofs.Limits.{not-over}
+use Rattle.affine.proofs.Operands.{totals, totalBounds, totals-within}
 use Rattle.affine.proofs.second_moment.Statement.{statement}
 use Rattle.affine.proofs.second_moment.Tie as tie
 
@@ -19,33 +25,31 @@ small s =
     let u = s .pre .0 in
     (u .first, (u .second, (u .shift, totals-within (s .pre .1))))
 
+module _ (s : tie.Start) where
+  weight : (K : ℕ) {z : ℤ} (k : Code (ρ s) z) → T (both (leb (size B k) K) (steps B k)) → over K z ≡ false
+  weight K {z} k t = not-over K z (run-within (ρ s) B (small s) k t)
+
+weighted-requires : tie.Need-weighted-requires
+weighted-requires s κs =
+    (weight s 8 (search code depth 40) tt, (weight s 8 (search code depth 40) tt, (weight s 8 (search code depth 40) tt, (weight s 32000 (search code depth 40) tt, (weight s 32000 (search code depth 40) tt, (weight s 48000000 (search code depth 40) tt, s .pre .1))))))
+
 returns : tie.Need-returns
 returns c =
-    let s = c .before .before .before .before .before .before .before .before .before .before .before .before in
-    runs (ρ s) B (small s) (search operations depth 60 fits 20000) tt
+    let s = c .before in
+    toZ-ofZ (record { sfits = c .weighted .ok }) ∙ c .weighted .ensures ∙ runs (ρ s) B (small s) (search code depth 60 fits 20000) tt
 
 pub second-moment-spec : {M : Type 1} → statement M
 second-moment-spec =
     tie.close
     (tie.spec
-    (λ c. let s = c in run-fits (ρ s) B (small s) (search operations depth 60 fits 20000) tt)
-    (λ c. let s = c .before .before in run-fits (ρ s) B (small s) (search operations depth 60 fits 20000) tt)
-    (λ c. let s = c .before .before in run-fits (ρ s) B (small s) (search operations depth 60 fits 20000) tt)
-    (λ c. let s = c .before .before .before .before in run-fits (ρ s) B (small s) (search operations depth 60 fits 20000) tt)
-    (λ c. let s = c .before .before .before .before in run-fits (ρ s) B (small s) (search operations depth 60 fits 20000) tt)
-    (λ c. let s = c .before .before .before .before in run-fits (ρ s) B (small s) (search operations depth 60 fits 20000) tt)
-    (λ c. let s = c .before .before .before .before .before .before in run-fits (ρ s) B (small s) (search operations depth 60 fits 20000) tt)
-    (λ c. let s = c .before .before .before .before .before .before in run-fits (ρ s) B (small s) (search operations depth 60 fits 20000) tt)
-    (λ c. let s = c .before .before .before .before .before .before in run-fits (ρ s) B (small s) (search operations depth 60 fits 20000) tt)
-    (λ c. let s = c .before .before .before .before .before .before in run-fits (ρ s) B (small s) (search operations depth 60 fits 20000) tt)
-    (λ c. let s = c .before .before .before .before .before .before .before .before in run-fits (ρ s) B (small s) (search operations depth 60 fits 20000) tt)
-    (λ c. let s = c .before .before .before .before .before .before .before .before in run-fits (ρ s) B (small s) (search operations depth 60 fits 20000) tt)
-    (λ c. let s = c .before .before .before .before .before .before .before .before in run-fits (ρ s) B (small s) (search operations depth 60 fits 20000) tt)
-    (λ c. let s = c .before .before .before .before .before .before .before .before in run-fits (ρ s) B (small s) (search operations depth 60 fits 20000) tt)
-    (λ c. let s = c .before .before .before .before .before .before .before .before .before .before in run-fits (ρ s) B (small s) (search operations depth 60 fits 20000) tt)
-    (λ c. let s = c .before .before .before .before .before .before .before .before .before .before in run-fits (ρ s) B (small s) (search operations depth 60 fits 20000) tt)
-    (λ c. let s = c .before .before .before .before .before .before .before .before .before .before in run-fits (ρ s) B (small s) (search operations depth 60 fits 20000) tt)
-    (λ c. let s = c .before .before .before .before .before .before .before .before .before .before in run-fits (ρ s) B (small s) (search operations depth 60 fits 20000) tt)
-    (λ c. let s = c .before .before .before .before .before .before .before .before .before .before .before .before in run-fits (ρ s) B (small s) (search operations depth 60 fits 20000) tt)
-    (λ c. let s = c .before .before .before .before .before .before .before .before .before .before .before .before in run-fits (ρ s) B (small s) (search operations depth 60 fits 20000) tt)
+    (λ s. run-fits (ρ s) B (small s) (search code depth 40) tt)
+    (λ s. run-fits (ρ s) B (small s) (search code depth 40) tt)
+    (λ s. run-fits (ρ s) B (small s) (search code depth 40) tt)
+    (λ s. run-fits (ρ s) B (small s) (search code depth 40) tt)
+    (λ s. run-fits (ρ s) B (small s) (search code depth 40) tt)
+    (λ s. run-fits (ρ s) B (small s) (search code depth 40) tt)
+    (λ s. run-fits (ρ s) B (small s) (search code depth 40) tt)
+    (λ s. run-fits (ρ s) B (small s) (search code depth 40) tt)
+    (λ s. run-fits (ρ s) B (small s) (search code depth 40) tt)
+    weighted-requires
     returns)

@@ -1,7 +1,7 @@
--- `cells::within_array` meets its contract.
+-- `within_array`: the smaller of the two.
 use native.Mathlib.Omega.{arith}
-use Rattle.cells.proofs.within_array.Statement.{statement}
-use Rattle.cells.proofs.within_array.Tie as tie
+use Rattle.region_array.proofs.within_array.Statement.{statement}
+use Rattle.region_array.proofs.within_array.Tie as tie
 
 returns : tie.Need-returns
 returns c = omega arith

@@ -1,4 +1,4 @@
--- `cells::region_sums_of` meets its contract: a walk of its MIR, by hand. The first runs of an array in a local are lent to `region_sums`, for a lifetime that the walk makes.
+-- `region_sums_of` meets its contract: a walk of its MIR, by hand. The first runs of an array in a local are lent to `region_sums`, for a lifetime that the walk makes.
 use mathlib.Core.Path.{_≡_, refl, sym, _∙_, ap}
 use Prim.Native.Nat.{ℕ, zero, suc, min}
 use native.Mathlib.Omega.{arith}
@@ -46,25 +46,25 @@ use denote.Triple.Spec.{Meets, tripleOf}
 use denote.Triple.Table.{entered, cited}
 use denote.Triple.Walked.{says, Stays, stay-dropped, walkOf, goes-dropped, Walks, ends-at, walked, walk-meets}
 use denote.Exit.{yes}
 use Rattle.cells.specs.RegionCall.{Answers}
 use Rattle.cells.specs.declared.Run.{Run}
 use Rattle.cells.specs.declared.RegionAnswer.{RegionAnswer}
 use Rattle.cells.proofs.Run as T
 use Rattle.cells.proofs.Run.Laws as T′
 use Rattle.cells.proofs.RegionAnswer as R
 use Rattle.cells.proofs.RegionAnswer.Laws as R′
-use Rattle.cells.proofs.within_array as within-array
-use Rattle.cells.proofs.within_array.Symbol as within-array-def
-use Rattle.cells.proofs.within_array.Symbol.{name as #cells·within-array}
-use Rattle.cells.proofs.within_array.Met as within-array-thm
+use Rattle.region_array.proofs.within_array as within-array
+use Rattle.region_array.proofs.within_array.Symbol as within-array-def
+use Rattle.region_array.proofs.within_array.Symbol.{name as #region-array·within-array}
+use Rattle.region_array.proofs.within_array.Met as within-array-thm
 use Rattle.cells.proofs.region_sums as region-sums
 use Rattle.cells.proofs.region_sums.Symbol as region-sums-def
 use Rattle.cells.proofs.region_sums.Symbol.{name as #cells·region-sums}
 use Rattle.cells.proofs.region_sums.Met as region-sums-thm
-use Rattle.cells.proofs.region_sums_of.Key.{name as #cells·region-sums-of}
-use Rattle.cells.proofs.region_sums_of as region-sums-of
-use Rattle.cells.proofs.region_sums_of.Statement as stated
-use Rattle.cells.proofs.region_sums_of.Code as code
+use Rattle.region_array.proofs.region_sums_of.Key.{name as #region-array·region-sums-of}
+use Rattle.region_array.proofs.region_sums_of as region-sums-of
+use Rattle.region_array.proofs.region_sums_of.Statement as stated
+use Rattle.region_array.proofs.region_sums_of.Code as code
 
 -- the array's type, its machine values, and its MIR type
 abbrev Row : RattleType
@@ -187,7 +187,7 @@ module _ {M : Type 1} (𝓤 : URA M) (H : Heap 𝓤) (A : Atoms 𝓤) (W : Given
       qed W [] ∵ suffices ! _ (ends-at 𝓤 H A region-sums-of.ended stayed (region-sums-of.clauses 𝓤 H A mem run) W ((tt, tt, tt, given .0, given .1), tt) v r (tt, (tt, tt)) (tt, (tt, tt))) $ says ! e $
       nothing ! $ frame ! $ nothing ! $ nothing ! $ fjoin ! $ nothing ! $ fjoin ! $ frame ! $ owned ! R.the-row (Is R.the-row) (EL.makes R.the-type R′.the-plain 𝓤 H A) r _ is $ done !
 
-  module _ (C : Calls 𝓤 H) (Λ : Loops 𝓤 H) (fm : FmC 𝓤 H (W .laws) C) (known-count : Triple 𝓤 (C #cells·within-array) (Count 𝓤 H A mem run)) (known-sums : Triple 𝓤 (C #cells·region-sums) (Sums 𝓤 H A mem run)) where
+  module _ (C : Calls 𝓤 H) (Λ : Loops 𝓤 H) (fm : FmC 𝓤 H (W .laws) C) (known-count : Triple 𝓤 (C #region-array·within-array) (Count 𝓤 H A mem run)) (known-sums : Triple 𝓤 (C #cells·region-sums) (Sums 𝓤 H A mem run)) where
     walk : ent 𝓤 (onEntry 𝓤 H A region-sums-of.signature tt tt (given .0) (given .1)) (WpFn 𝓤 H C Λ code.function (only (vals xs) ∷ vint w64 k ∷ []) Post)
     walk =
         qed W (‵ ftrue ∷ ‵ (owns (Row ∷ usize ∷ []) (given .0) (given .1)) ∷ []) ∵ enter ! C Λ code.function (only (vals xs) ∷ vint w64 k ∷ []) _ $
@@ -223,7 +223,7 @@ module _ {M : Type 1} (𝓤 : URA M) (H : Heap 𝓤) (A : Atoms 𝓤) (W : Given
         move ! (13 ∷ 14 ∷ []) $ free1 ! $ move ! (11 ∷ 12 ∷ []) $ free1 ! $ move ! (9 ∷ 10 ∷ []) $ free1 ! $ move ! (0 ∷ 8 ∷ []) $ free1 ! $ move ! (5 ∷ 6 ∷ []) $ free1 ! $ move ! (3 ∷ 4 ∷ []) $ free1 ! $ move ! (1 ∷ 2 ∷ []) $ free1 ! $ free0 ! $
         keep ! [] $ by ! (exits r v is h))))))))))))))))))
 
-module _ {M : Type 1} (𝓤 : URA M) (H : Heap 𝓤) (A : Atoms 𝓤) (W : Given 𝓤 H A) (mem : Memory → SProp 𝓤) (run : Routine → Fun 𝓤) (𝓣 : Tables 𝓤 H) (known-count : Triple 𝓤 (𝓣 .C #cells·within-array) (Count 𝓤 H A mem run)) (known-sums : Triple 𝓤 (𝓣 .C #cells·region-sums) (Sums 𝓤 H A mem run)) where
+module _ {M : Type 1} (𝓤 : URA M) (H : Heap 𝓤) (A : Atoms 𝓤) (W : Given 𝓤 H A) (mem : Memory → SProp 𝓤) (run : Routine → Fun 𝓤) (𝓣 : Tables 𝓤 H) (known-count : Triple 𝓤 (𝓣 .C #region-array·within-array) (Count 𝓤 H A mem run)) (known-sums : Triple 𝓤 (𝓣 .C #cells·region-sums) (Sums 𝓤 H A mem run)) where
   region-sums-of-walks : Walks 𝓤 H A region-sums-of.ended stayed (WpFn 𝓤 H (𝓣 .C) (𝓣 .Λ) code.function) (region-sums-of.clauses 𝓤 H A mem run)
   region-sums-of-walks = walked 𝓤 H A region-sums-of.ended stayed (region-sums-of.clauses 𝓤 H A mem run) (WpFn 𝓤 H (𝓣 .C) (𝓣 .Λ) code.function)
       (λ κs. (vals, (uint-vals w64, tt))) (λ κs. (array-tells T.the-row (LL.vals T.the-type T′.the-laws) (LL.tells T.the-type T′.the-laws) 4097, (uint-tells w64, tt)))
@@ -237,7 +237,7 @@ pub region-sums-of-spec : {M : Type 1} → stated.statement M
 unfolding code.routine tablesOf
 region-sums-of-spec 𝓤 H 𝓜 𝓖 𝓡 =
     entered 𝓤 H (tripleOf 𝓤 H (𝓖 .A) region-sums-of.signature (region-sums-of.spec 𝓤 H (𝓖 .A) (𝓜 .mem) (𝓡 .run)))
-    (tables 𝓤 H 𝓜 𝓡 code.env .C) (tables 𝓤 H 𝓜 𝓡 code.env .Λ) #cells·region-sums-of code.function (code.unfolded 𝓤 H 𝓜 𝓡)
+    (tables 𝓤 H 𝓜 𝓡 code.env .C) (tables 𝓤 H 𝓜 𝓡 code.env .Λ) #region-array·region-sums-of code.function (code.unfolded 𝓤 H 𝓜 𝓡)
     (region-sums-of-meets 𝓤 H (𝓖 .A) (givenOf 𝓤 H 𝓜 𝓖) (𝓜 .mem) (𝓡 .run) (tablesOf 𝓤 H 𝓜 (tables 𝓤 H 𝓜 𝓡 code.env))
-    (cited 𝓤 H (Count 𝓤 H (𝓖 .A) (𝓜 .mem) (𝓡 .run)) 𝓜 𝓡 code.env #cells·within-array within-array-def.routine code.calls-cells·within-array (within-array-thm.met 𝓤 H 𝓜 𝓖 𝓡))
+    (cited 𝓤 H (Count 𝓤 H (𝓖 .A) (𝓜 .mem) (𝓡 .run)) 𝓜 𝓡 code.env #region-array·within-array within-array-def.routine code.calls-region-array·within-array (within-array-thm.met 𝓤 H 𝓜 𝓖 𝓡))
     (cited 𝓤 H (Sums 𝓤 H (𝓖 .A) (𝓜 .mem) (𝓡 .run)) 𝓜 𝓡 code.env #cells·region-sums region-sums-def.routine code.calls-cells·region-sums (region-sums-thm.met 𝓤 H 𝓜 𝓖 𝓡)))
