@@ -8,8 +8,8 @@ use lib.Dec.{eqb}
 use lib.ListN.{length, drop}
 use borrow.Author.Tests.{eqb-true, eqb-false, ne-eqb}
 use Rattle.forms.specs.Grammar.{fields, withFirst, Number, number, malformed, numberOf, Form, other, letterOf, pointOf, formOfFields, formOf}
-use Rattle.forms.specs.ReadForm.{noForm, formed, lineFront}
-use Rattle.forms.specs.Parts.{numberToken, sized, numberAt, afterX, secondForm}
+use Rattle.forms.specs.ReadForm.{noForm, formed}
+use Rattle.forms.specs.Parts.{numberToken, sized, numberAt, afterX, secondForm, lineFront}
 use Rattle.forms.proofs.Tokens.{plain-token, token-split, token-size, token-over}
 use Rattle.forms.proofs.PointLines.{second-byte, x-alone, x-over, x-tab, rest-no-tab, rest-none, y-alone, y-over, malformed-point, point-malformed}
 use Rattle.forms.proofs.FrontLaws.{formed-other, front-end, front-step, front-same, front-none, front-skip}

@@ -9,3 +9,5 @@ pub mod Places
 pub mod ReadingLaw
 pub mod WorkedLines
 pub mod FormLength
+pub mod ShortLines
+pub mod Newlines

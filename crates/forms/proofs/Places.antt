@@ -7,8 +7,8 @@ use lib.IntN.{ℤ}
 use lib.ListN.{length, drop, getD}
 use lib.Seq.{drop-drop}
 use Rattle.forms.specs.Grammar.{Number, number, malformed, numberOf, Form, point, pointOf, formOf}
-use Rattle.forms.specs.ReadForm.{Front, noForm, formed, lineFront}
-use Rattle.forms.specs.Parts.{numberToken, numberAt, secondForm}
+use Rattle.forms.specs.ReadForm.{Front, noForm, formed}
+use Rattle.forms.specs.Parts.{numberToken, numberAt, secondForm, lineFront}
 use Rattle.forms.specs.declared.number.NumberAt.{NumberAt}
 use Rattle.forms.proofs.Tokens.{token-size}
 use Rattle.forms.proofs.NumberReads.{byte-at}

@@ -1,4 +1,4 @@
--- Two answers of `read_form` that read the same are the same, since the reading gives the answer back: no other reply keeps the promise.
+-- Two answers of `line_form` that read the same are the same, since the reading gives the answer back: no other reply keeps the promise.
 use mathlib.Core.Path.{_≡_, refl, sym, _∙_, ap}
 use Prim.Native.Nat.{ℕ}
 use Rattle.forms.specs.Grammar.{Form, begin, end, abandon, point, other}

@@ -1,9 +1,10 @@
--- Lines worked by computation, all in one list: a point's line, then lines of none of the forms. A tab is 9, a minus 45, a digit d 48 + d.
+-- Lines worked by computation: a point's line and lines of none of the forms, all in one list, then lines by their places in a chunk. A tab is 9, a minus 45, a digit d 48 + d.
 use mathlib.Core.Path.{_≡_, refl}
 use mathlib.Core.List.{List, [], _∷_, map}
 use Prim.Native.Nat.{ℕ}
 use lib.IntN.{pos, negsuc}
-use Rattle.forms.specs.Grammar.{allDigits, valueFrom, leadingZero, isNatural, numberOf, negativeOf, naturalOf, fields, withFirst, letterOf, pointOf, isP, formOfFields, formOf, Form, point, other}
+use Rattle.forms.specs.Grammar.{allDigits, valueFrom, leadingZero, isNatural, numberOf, negativeOf, naturalOf, fields, withFirst, letterOf, pointOf, isP, formOfFields, formOf, Form, begin, end, point, other}
+use Rattle.forms.specs.ReadForm.{lineLength, noForm, formed, formAt}
 
 record Worked : Type 0 where
   line : List ℕ
@@ -23,3 +24,8 @@ lines =
 worked : map (λ (w : Worked). formOf (w .line)) lines ≡ map (λ (w : Worked). w .form) lines
 unfolding lines formOf formOfFields fields withFirst isP letterOf numberOf negativeOf naturalOf isNatural allDigits leadingZero valueFrom pointOf
 worked = refl
+
+-- The chunk of B, a newline and E, which nothing ends, by the places of the two lines and of the end.
+ends : map (formAt (66 ∷ 10 ∷ 69 ∷ [])) (0 ∷ 2 ∷ 3 ∷ []) ≡ record { form = begin; next = 2 } ∷ record { form = end; next = 4 } ∷ noForm ∷ []
+unfolding formAt formed lineLength formOf formOfFields fields withFirst letterOf
+ends = refl

@@ -1,11 +1,12 @@
--- What the parts of `read_form` read: a number at the front of bytes, and the rest of a point's line after its x.
-use Prim.Native.Nat.{ℕ, _≤_, _<_}
+-- What the parts of `line_form` read: a number at the front of bytes, the rest of a point's line after its x, a line by any rule for its form, and a copy.
+use Prim.Native.Nat.{ℕ, _+_, _<_}
 use mathlib.Core.Bool.{Bool, not, _&&_, cond}
-use mathlib.Core.List.{List, [], _∷_}
+use mathlib.Core.List.{List, [], _∷_, _++_}
 use lib.Dec.{eqb}
-use lib.ListN.{length, take}
-use lib.IntN.{ℤ, pos}
+use lib.ListN.{length, take, drop}
+use lib.IntN.{pos}
 use Rattle.forms.specs.Grammar.{isDigit, valueFrom, isNatural, Number, number, malformed, numberOf, fields, Form, other, pointOf}
+use Rattle.forms.specs.ReadForm.{lineLength, Front, formed}
 use Rattle.forms.specs.declared.number.NumberAt.{NumberAt}
 use Rattle.forms.specs.declared.number.DigitsAt.{DigitsAt}
 
@@ -43,6 +44,14 @@ afterX x (f ∷ y ∷ z ∷ fs) = other
 
 unfoldable pub secondForm : Number → List ℕ → Form
 secondForm x bs = afterX x (fields bs)
+
+-- The first line of bytes that stand at the place `at`, by a rule for its form.
+unfoldable pub lineFront : (List ℕ → Form) → List ℕ → ℕ → Front
+lineFront rule bs at = let n = lineLength bs in formed (rule (take n bs)) (at + n + 1)
+
+-- Bytes over the first of others.
+abbrev pub over : List ℕ → List ℕ → List ℕ
+over bs others = bs ++ drop (length bs) others
 
 -- Four bytes, so that no sum of theirs wraps.
 pub record Bytes (a b c d : ℕ) : Type 0 where

@@ -1,10 +1,9 @@
--- The form of the line at a place of a chunk, in the terms of `Grammar`, and what each answer of `read_form` says in those terms.
+-- The form of the line at a place of a chunk, in the terms of `Grammar`, and what each answer of `line_form` says in those terms.
 use Prim.Native.Nat.{ℕ, suc, _+_}
 use mathlib.Core.Bool.{cond}
 use mathlib.Core.List.{List, [], _∷_}
-use lib.Dec.{ltb, eqb}
-use lib.ListN.{length, take, drop}
-use lib.IntN.{ℤ}
+use lib.Dec.{eqb}
+use lib.ListN.{take, drop}
 use Rattle.forms.specs.Grammar.{Form, begin, end, abandon, point, other, formOf}
 use Rattle.forms.specs.declared.LineForm.{LineForm}
 use Rattle.forms.specs.declared.LineForm.the-variants.{Begin, End, Abandon, Point, Other}
@@ -29,15 +28,9 @@ formed abandon next = record { form = abandon; next = next }
 formed (point x y) next = record { form = point x y; next = next }
 formed other next = noForm
 
--- The first line of bytes that stand at the place `at`, by a rule for its form; none where no newline ends it.
-unfoldable pub lineFront : (List ℕ → Form) → List ℕ → ℕ → Front
-lineFront rule bs at =
-    let n = lineLength bs in
-    cond (ltb n (length bs)) (formed (rule (take n bs)) (at + n + 1)) noForm
-
--- No form is longer than 13 bytes, so `read_form` leaves fewer than 14 to its caller.
-unfoldable pub frontForm : List ℕ → ℕ → Front
-frontForm s at = cond (ltb (length (drop at s)) 14) noForm (lineFront formOf (drop at s) at)
+-- The line from `at` on, ended by the first newline or by the end of s. The next one begins past that newline, or past the one that would stand there.
+unfoldable pub formAt : List ℕ → ℕ → Front
+formAt s at = let bs = drop at s in formed (formOf (take (lineLength bs) bs)) (at + lineLength bs + 1)
 
 abbrev pub reading : LineForm → Front
 reading (Begin next) = record { form = begin; next = next }

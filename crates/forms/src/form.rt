@@ -4,8 +4,8 @@ ghost use mathlib.Core.List.{_∷_};
 ghost use Prim.Native.Nat.{_+_, _≤_};
 ghost use lib.ListN.{length, drop};
 ghost use Rattle.forms.specs.Grammar.{number, formOf};
-ghost use Rattle.forms.specs.ReadForm.{lineFront, reading};
-ghost use Rattle.forms.specs.Parts.{secondForm};
+ghost use Rattle.forms.specs.ReadForm.{reading};
+ghost use Rattle.forms.specs.Parts.{secondForm, lineFront};
 use crate::LineForm;
 use crate::number::read_number;
 

@@ -1,27 +1,13 @@
--- `newline` passes bytes that are no newline: the place and what is left of the line add up to the same throughout.
-use Prim.Native.Nat.{ℕ, _+_, _-_, _<_, _≤_}
-use mathlib.Core.Path.{_≡_, refl, sym, _∙_}
-use mathlib.Core.List.{List}
+-- `newline` meets its contract. The invariant is that of `newline_by_bytes`: the place and what is left of the line add up to the same throughout.
+use Prim.Native.Nat.{_+_, _-_}
+use mathlib.Core.Path.{_≡_, refl, _∙_}
 use native.Mathlib.Omega.{arith}
-use lib.ListN.{length, getD, drop, drop-of-length-le}
-use borrow.Author.Tests.{eq-eqb, ne-eqb}
+use borrow.Author.Needs.{needs}
+use lib.ListN.{length, drop}
 use Rattle.forms.specs.ReadForm.{lineLength}
-use Rattle.forms.proofs.NumberReads.{byte-at}
+use Rattle.forms.proofs.Newlines.{ends, stops-among, goes-past}
 use Rattle.forms.proofs.newline.Statement.{statement}
 use Rattle.forms.proofs.newline.Tie as tie
-
-module _ (s : List ℕ) (i : ℕ) where
-  stops : i < length s → getD s i 0 ≡ 10 → i ≡ i + lineLength (drop i s)
-  unfolding lineLength
-  stops h e = rw (byte-at s i h, eq-eqb (getD s i 0) 10 e) (omega arith)
-
-  goes-on : i < length s → (getD s i 0 ≡ 10 → ⊥) → i + lineLength (drop i s) ≡ i + 1 + lineLength (drop (i + 1) s)
-  unfolding lineLength
-  goes-on h e = rw (byte-at s i h, ne-eqb (getD s i 0) 10 e) (omega arith)
-
-  ends : length s ≤ i → i ≡ i + lineLength (drop i s)
-  unfolding lineLength
-  ends h = rw (drop-of-length-le s {i = i} h) (omega arith)
 
 abbrev Inv-loop : tie.InvT-loop
 Inv-loop s at i₀ i = i + lineLength (drop i s) ≡ at + lineLength (drop at s)
@@ -32,13 +18,26 @@ abbrev μ-loop : tie.MeasureT-loop
 loop-holds : tie.Need-loop-holds Inv-loop μ-loop
 loop-holds c = refl
 
-shared-slice-read-if1 : tie.Need-shared-slice-read-if1 Inv-loop μ-loop
-shared-slice-read-if1 c = omega arith
+sub-if1 : tie.Need-sub-if1 Inv-loop μ-loop
+sub-if1 c = omega arith
+
+newline-by-bytes-requires : tie.Need-newline-by-bytes-requires Inv-loop μ-loop
+newline-by-bytes-requires c κs = search needs
 
 returns : tie.Need-returns Inv-loop μ-loop
-returns c =
-    let p = c .before .before .before in
-    stops (p .before .args .s .now) (p .loop .i) (omega arith) (c .if1 .taken) ∙ p .loop .inv
+returns c = c .newline-by-bytes .ensures ∙ c .before .before .before .loop .inv
+
+first-of-eight-requires : tie.Need-first-of-eight-requires Inv-loop μ-loop
+first-of-eight-requires c κs = omega arith
+
+add-result : tie.Need-add-result Inv-loop μ-loop
+add-result c = omega arith
+
+returns-2 : tie.Need-returns-2 Inv-loop μ-loop
+returns-2 c =
+    let k = c .before .first-of-eight in
+    let l = c .before .before .before .before .loop in
+    stops-among (c .before .before .before .before .before .before .args .s .now) (l .i) 8 (omega arith) (k .result) (k .ensures) (c .if2 .taken) ∙ l .inv
 
 add-i : tie.Need-add-i Inv-loop μ-loop
 add-i c = omega arith
@@ -48,11 +47,12 @@ loop-less c = omega arith
 
 loop-again : tie.Need-loop-again Inv-loop μ-loop
 loop-again c =
-    let p = c .before .before .before in
-    sym (goes-on (p .before .args .s .now) (p .loop .i) (omega arith) (c .if1 .left)) ∙ p .loop .inv
+    let k = c .before .first-of-eight in
+    let l = c .before .before .before .before .loop in
+    goes-past (c .before .before .before .before .before .before .args .s .now) (l .i) 8 (k .result) (k .ensures) (omega arith) ∙ l .inv
 
-returns-2 : tie.Need-returns-2 Inv-loop μ-loop
-returns-2 c = let p = c .before in ends (p .before .args .s .now) (p .loop .i) (omega arith) ∙ p .loop .inv
+returns-3 : tie.Need-returns-3 Inv-loop μ-loop
+returns-3 c = let p = c .before in ends (p .before .before .args .s .now) (p .loop .i) (omega arith) ∙ p .loop .inv
 
 pub newline-spec : {M : Type 1} → statement M
 newline-spec =
@@ -61,9 +61,13 @@ newline-spec =
     Inv-loop
     μ-loop
     loop-holds
-    shared-slice-read-if1
+    sub-if1
+    newline-by-bytes-requires
     returns
+    first-of-eight-requires
+    add-result
+    returns-2
     add-i
     loop-less
     loop-again
-    returns-2)
+    returns-3)

@@ -7,8 +7,7 @@ use lib.ListN.{drop}
 use mir.Syntax.{w32}
 use mir.Val.{toZ, ofZ}
 use Rattle.forms.specs.Grammar.{number}
-use Rattle.forms.specs.ReadForm.{lineFront}
-use Rattle.forms.specs.Parts.{secondForm}
+use Rattle.forms.specs.Parts.{secondForm, lineFront}
 use Rattle.forms.proofs.Places.{point-no-tab, point-malformed-x, point-rest, size-small}
 use borrow.Author.Needs.{needs}
 use Rattle.forms.proofs.form.point_form.Statement.{statement}
