@@ -1,6 +1,10 @@
 -- Cases of a test.
-use mathlib.Core.Path.{_≡_, refl}
+use Prim.Native.Nat.{ℕ, _+_, _-_, _≤_}
+use mathlib.Core.Path.{_≡_, refl, sym}
 use mathlib.Core.Bool.{Bool, true, false, _&&_, _||_, cond}
+use native.Mathlib.Omega.{arith}
+use borrow.Author.Tests.{lt-ltb, le-ltb, ltb-true, ltb-false}
+use lib.Dec.{ltb}
 
 -- What holds of both branches, each where the test goes that way, holds of the whole.
 pub by-cond : {A : Type 0} (P : A → Type 0) (t : Bool) {yes no : A} → (t ≡ true → P yes) → (t ≡ false → P no) → P (cond t yes no)
@@ -22,3 +26,11 @@ by-and P false u h k l = k refl
 pub both-cond : {A B : Type 0} (f : A → B) (t : Bool) {a b c d : A} → (t ≡ true → f a ≡ f c) → (t ≡ false → f b ≡ f d) → f (cond t a b) ≡ f (cond t c d)
 both-cond f true h k = h refl
 both-cond f false h k = k refl
+
+-- A difference compared in place of a sum, which could wrap.
+pub difference-test : (a b m : ℕ) → b ≤ a → ltb (a - b) m ≡ ltb a (m + b)
+difference-test a b m h = go (ltb (a - b) m) refl
+  where
+    go : (t : Bool) → ltb (a - b) m ≡ t → t ≡ ltb a (m + b)
+    go true e = sym (lt-ltb a (m + b) (omega (arith, ltb-true (a - b) m e)))
+    go false e = sym (le-ltb a (m + b) (omega (arith, ltb-false (a - b) m e)))

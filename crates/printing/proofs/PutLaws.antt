@@ -1,5 +1,5 @@
 -- Text written into a buffer: nothing, one byte, one text after another.
-use Prim.Native.Nat.{ℕ, zero, suc, _+_, _-_, _≤_, _<_}
+use Prim.Native.Nat.{ℕ, suc, _+_, _≤_, _<_}
 use mathlib.Core.Path.{_≡_, refl, sym, ap, ap₂, _∙_}
 use mathlib.Core.Bool.{Bool, true, false}
 use mathlib.Core.List.{List, [], _∷_, _++_, append-assoc, append-nil}
@@ -8,7 +8,7 @@ use native.Mathlib.Numerals.{add-one}
 use lib.Dec.{ltb}
 use borrow.Author.Tests.{ltb-false}
 use lib.ListN.{length, take, drop, set, length-append, length-drop, take-append-drop}
-use lib.Seq.{length-take-le, append-snoc, set-split, take-at, take-take, take-append-le, drop-at, drop-drop}
+use lib.Seq.{length-take-le, append-snoc, set-split, take-at, drop-at, drop-drop}
 use Rattle.printing.specs.Put.{lineRoom, put, fitting, Written}
 
 -- Nothing written leaves the buffer as it was.
@@ -61,24 +61,6 @@ next-fits {o} {p} {x} {at} w y h = let n : at + length x + length y ≤ length o
 pub byte-written : (o : List ℕ) (at b : ℕ) → at < length o → Written o at (b ∷ []) (set o at b) (at + 1)
 unfolding put
 byte-written o at b h = record { buffer = rw add-one (set-split o at b h ∙ sym (append-snoc (take at o) b (drop (suc at) o))); end = refl }
-
--- A byte before a text.
-before-text : (o : List ℕ) (at b : ℕ) (x : List ℕ) → suc at + length x ≤ length o → set (put o (suc at) x) at b ≡ put o at (b ∷ x)
-unfolding put
-before-text o at b x h =
-    let rest = drop (suc at + length x) o in
-    let size : length (take (suc at) o) ≡ suc at = length-take-le (suc at) o (omega arith) in
-    let place : suc at + length x ≡ at + suc (length x) = omega arith in
-    ap (λ l. set l at b) (append-assoc (take (suc at) o) x rest)
-    ∙ set-split (take (suc at) o ++ (x ++ rest)) at b (omega (arith, length-append (take (suc at) o) (x ++ rest)))
-    ∙ ap₂ (λ f l. f ++ b ∷ l)
-    (take-append-le at (take (suc at) o) (x ++ rest) (omega arith) ∙ take-take at (suc at) o (omega arith))
-    (drop-at (take (suc at) o) (x ++ rest) (suc at) size ∙ ap (λ n. x ++ drop n o) place)
-    ∙ sym (append-assoc (take at o) (b ∷ x) (drop (at + suc (length x)) o))
-
-pub set-put : (o : List ℕ) (i b : ℕ) (x : List ℕ) → 0 < i → i + length x ≤ length o → set (put o i x) (i - 1) b ≡ put o (i - 1) (b ∷ x)
-set-put o zero b x p h = absurd (omega arith)
-set-put o (suc at) b x p h = let place : suc at - 1 ≡ at = omega arith in rw place (before-text o at b x h)
 
 -- ---- a line, where there is room for the longest one, and where there is not
 

@@ -1,6 +1,6 @@
 -- Document 01, "The text program": the lines of the output, as bytes.
 use Prim.Native.Nat.{ℕ, zero, suc, _+_, _/_, _%_}
-use mathlib.Core.Bool.{Bool, cond}
+use mathlib.Core.Bool.{cond}
 use mathlib.Core.List.{List, [], _∷_, _++_}
 use lib.Dec.{ltb, eqb}
 use lib.IntN.{ℤ, pos, negsuc}
@@ -34,9 +34,13 @@ totalsText t = field (t .a2) ++ field (t .x6) ++ field (t .y6) ++ field (t .xx12
 unfoldable pub centreText : CentroidOutcome → List ℕ
 centreText c = cond (eqb (c .number) 0) (field (c .x) ++ field (c .y)) (9 ∷ 45 ∷ 9 ∷ 45 ∷ [])
 
+-- What the lines of an outline and of a sheet end with: the totals and the centre.
+abbrev pub figuresText : Totals → List ℕ
+figuresText t = totalsText t ++ centreText (outlineCentroidCall t) ++ 10 ∷ []
+
 -- O: the outline's number, its points, its totals and its centre.
 unfoldable pub outlineLine : ℕ → ℕ → Totals → List ℕ
-outlineLine count points t = 79 ∷ field (pos count) ++ field (pos points) ++ totalsText t ++ centreText (outlineCentroidCall t) ++ 10 ∷ []
+outlineLine count points t = 79 ∷ field (pos count) ++ field (pos points) ++ figuresText t
 
 -- R: the line's number and the refusal's.
 unfoldable pub refusalLine : ℕ → ℕ → List ℕ
@@ -44,4 +48,4 @@ refusalLine line refusal = 82 ∷ field (pos line) ++ field (pos refusal) ++ 10 
 
 -- S: the sheet's count, its totals and its centre.
 unfoldable pub sheetLine : Sheet → List ℕ
-sheetLine s = 83 ∷ field (pos (s .count)) ++ totalsText (s .totals) ++ centreText (outlineCentroidCall (s .totals)) ++ 10 ∷ []
+sheetLine s = 83 ∷ field (pos (s .count)) ++ figuresText (s .totals)

@@ -1,4 +1,6 @@
 // The lines of the output, written into a buffer that the caller lends. Each answers the place past the line.
+mod digits;
+
 ghost use mathlib.Core.Path.{_≡_};
 ghost use mathlib.Core.List.{[], _∷_};
 ghost use Prim.Native.Nat.{_+_, _<_, _≤_};
@@ -6,9 +8,10 @@ ghost use lib.Dec.{ltb};
 ghost use lib.IntN.{pos, natAbs};
 ghost use lib.ListN.{length};
 ghost use Rattle.centroid.specs.Centroid.{outlineCentroidCall};
-ghost use Rattle.printing.specs.Output.{decimal, signed, field, totalsText, centreText, outlineLine, refusalLine, sheetLine};
+ghost use Rattle.printing.specs.Output.{signed, field, totalsText, centreText, figuresText, outlineLine, refusalLine, sheetLine};
 ghost use Rattle.printing.specs.Put.{lineRoom, fitting, Written};
 use centroid::CentroidAnswer;
+use digits::put_decimal;
 use outline::Sheet;
 use outline::Totals;
 
@@ -33,88 +36,8 @@ fn put_byte(out: &mut [u8], at: usize, b: u8) -> usize
     at + 1
 }
 
-// How many digits n has. A chain of comparisons takes no division.
-fn width(n: u64) -> usize
-    ensures { λ r. ⌜ r ≡ length (decimal n) ⌝ }
-{
-    if n < 10 {
-        return 1;
-    }
-    if n < 100 {
-        return 2;
-    }
-    if n < 1_000 {
-        return 3;
-    }
-    if n < 10_000 {
-        return 4;
-    }
-    if n < 100_000 {
-        return 5;
-    }
-    if n < 1_000_000 {
-        return 6;
-    }
-    if n < 10_000_000 {
-        return 7;
-    }
-    if n < 100_000_000 {
-        return 8;
-    }
-    if n < 1_000_000_000 {
-        return 9;
-    }
-    if n < 10_000_000_000 {
-        return 10;
-    }
-    if n < 100_000_000_000 {
-        return 11;
-    }
-    if n < 1_000_000_000_000 {
-        return 12;
-    }
-    if n < 10_000_000_000_000 {
-        return 13;
-    }
-    if n < 100_000_000_000_000 {
-        return 14;
-    }
-    if n < 1_000_000_000_000_000 {
-        return 15;
-    }
-    if n < 10_000_000_000_000_000 {
-        return 16;
-    }
-    if n < 100_000_000_000_000_000 {
-        return 17;
-    }
-    if n < 1_000_000_000_000_000_000 {
-        return 18;
-    }
-    if n < 10_000_000_000_000_000_000 {
-        return 19;
-    }
-    20
-}
-
-// The digits of n, the last one first.
-fn put_decimal(out: &mut [u8], at: usize, n: u64) -> usize
-    requires { ⌜ at + length (decimal n) ≤ length (now out) ⌝ }
-    ensures { λ r. ⌜ Written (now (out .entry)) at (decimal n) (now (out .exit)) r ⌝ }
-{
-    let end = at + width(n);
-    let mut i = end;
-    let mut m = n;
-    while at < i {
-        i -= 1;
-        out[i] = 48 + (m % 10) as u8;
-        m = m / 10;
-    }
-    end
-}
-
 // The absolute value, also of the least i64.
-fn magnitude(n: i64) -> u64
+pub fn magnitude(n: i64) -> u64
     ensures { λ r. ⌜ r ≡ natAbs n ⌝ }
 {
     if n < 0 {
@@ -182,6 +105,16 @@ fn put_centre(out: &mut [u8], at: usize, t: Totals) -> usize
     put_field(out, a, y)
 }
 
+// The totals and the centre, and the newline after them.
+fn put_figures(out: &mut [u8], at: usize, t: Totals) -> usize
+    requires { ⌜ at + length (figuresText t) ≤ length (now out) ⌝ }
+    ensures { λ r. ⌜ Written (now (out .entry)) at (figuresText t) (now (out .exit)) r ⌝ }
+{
+    let a = put_totals(out, at, t);
+    let b = put_centre(out, a, t);
+    put_byte(out, b, 10)
+}
+
 // R: the line's number and the refusal's.
 pub fn put_refusal(out: &mut [u8], at: usize, line: u64, number: u64) -> usize
     ensures { λ r. ⌜ Written (now (out .entry)) at (fitting (now (out .entry)) at (refusalLine line number)) (now (out .exit)) r ⌝ }
@@ -205,9 +138,7 @@ pub fn put_outline(out: &mut [u8], at: usize, outlines: u32, points: u32, t: Tot
     let a = put_byte(out, at, 79);
     let b = put_natural(out, a, outlines as u64);
     let c = put_natural(out, b, points as u64);
-    let d = put_totals(out, c, t);
-    let e = put_centre(out, d, t);
-    put_byte(out, e, 10)
+    put_figures(out, c, t)
 }
 
 // S: the sheet's count, its totals and its centre.
@@ -220,7 +151,5 @@ pub fn put_sheet(out: &mut [u8], at: usize, s: Sheet) -> usize
     let t = s.totals;
     let a = put_byte(out, at, 83);
     let b = put_natural(out, a, s.count as u64);
-    let c = put_totals(out, b, t);
-    let d = put_centre(out, c, t);
-    put_byte(out, d, 10)
+    put_figures(out, b, t)
 }

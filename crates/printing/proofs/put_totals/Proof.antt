@@ -8,7 +8,6 @@ use lib.IntN.{ℤ}
 use lib.ListN.{length, length-append}
 use mir.Syntax.{w64}
 use mir.Val.{toZ, ofZ}
-use Rattle.outline.specs.declared.Totals.{Totals}
 use Rattle.printing.specs.Output.{field, totalsText}
 use Rattle.printing.specs.Put.{Written}
 use Rattle.printing.proofs.PutLaws.{then, next-fits, same-size}

@@ -1,0 +1,96 @@
+// The digits of a number, the first one first. A number is cut in halves of eight, four and two digits, so that no loop is left and few divisions wait for one another.
+ghost use Prim.Native.Nat.{_+_, _<_, _≤_};
+ghost use lib.ListN.{length};
+ghost use Rattle.printing.specs.Output.{decimal};
+ghost use Rattle.printing.specs.Digits.{lastDigits};
+ghost use Rattle.printing.specs.Put.{Written};
+use crate::put_byte;
+
+// ---- all digits of a piece, with zeros at its front
+
+fn two_digits(out: &mut [u8], at: usize, n: u64) -> usize
+    requires { ⌜ n < 100 ⌝ }
+    requires { ⌜ at + 2 ≤ length (now out) ⌝ }
+    ensures { λ r. ⌜ Written (now (out .entry)) at (lastDigits 2 n) (now (out .exit)) r ⌝ }
+{
+    let a = put_byte(out, at, 48 + (n / 10) as u8);
+    put_byte(out, a, 48 + (n % 10) as u8)
+}
+
+fn four_digits(out: &mut [u8], at: usize, n: u64) -> usize
+    requires { ⌜ n < 10_000 ⌝ }
+    requires { ⌜ at + 4 ≤ length (now out) ⌝ }
+    ensures { λ r. ⌜ Written (now (out .entry)) at (lastDigits 4 n) (now (out .exit)) r ⌝ }
+{
+    let a = two_digits(out, at, n / 100);
+    two_digits(out, a, n % 100)
+}
+
+fn eight_digits(out: &mut [u8], at: usize, n: u64) -> usize
+    requires { ⌜ n < 100_000_000 ⌝ }
+    requires { ⌜ at + 8 ≤ length (now out) ⌝ }
+    ensures { λ r. ⌜ Written (now (out .entry)) at (lastDigits 8 n) (now (out .exit)) r ⌝ }
+{
+    let a = four_digits(out, at, n / 10_000);
+    four_digits(out, a, n % 10_000)
+}
+
+// ---- a number of so many digits at most
+
+fn up_to_two(out: &mut [u8], at: usize, n: u64) -> usize
+    requires { ⌜ n < 100 ⌝ }
+    requires { ⌜ at + length (decimal n) ≤ length (now out) ⌝ }
+    ensures { λ r. ⌜ Written (now (out .entry)) at (decimal n) (now (out .exit)) r ⌝ }
+{
+    if n < 10 {
+        return put_byte(out, at, 48 + n as u8);
+    }
+    two_digits(out, at, n)
+}
+
+fn up_to_four(out: &mut [u8], at: usize, n: u64) -> usize
+    requires { ⌜ n < 10_000 ⌝ }
+    requires { ⌜ at + length (decimal n) ≤ length (now out) ⌝ }
+    ensures { λ r. ⌜ Written (now (out .entry)) at (decimal n) (now (out .exit)) r ⌝ }
+{
+    if n < 100 {
+        return up_to_two(out, at, n);
+    }
+    let a = up_to_two(out, at, n / 100);
+    two_digits(out, a, n % 100)
+}
+
+fn up_to_eight(out: &mut [u8], at: usize, n: u64) -> usize
+    requires { ⌜ n < 100_000_000 ⌝ }
+    requires { ⌜ at + length (decimal n) ≤ length (now out) ⌝ }
+    ensures { λ r. ⌜ Written (now (out .entry)) at (decimal n) (now (out .exit)) r ⌝ }
+{
+    if n < 10_000 {
+        return up_to_four(out, at, n);
+    }
+    let a = up_to_four(out, at, n / 10_000);
+    four_digits(out, a, n % 10_000)
+}
+
+fn up_to_sixteen(out: &mut [u8], at: usize, n: u64) -> usize
+    requires { ⌜ n < 10_000_000_000_000_000 ⌝ }
+    requires { ⌜ at + length (decimal n) ≤ length (now out) ⌝ }
+    ensures { λ r. ⌜ Written (now (out .entry)) at (decimal n) (now (out .exit)) r ⌝ }
+{
+    if n < 100_000_000 {
+        return up_to_eight(out, at, n);
+    }
+    let a = up_to_eight(out, at, n / 100_000_000);
+    eight_digits(out, a, n % 100_000_000)
+}
+
+pub(crate) fn put_decimal(out: &mut [u8], at: usize, n: u64) -> usize
+    requires { ⌜ at + length (decimal n) ≤ length (now out) ⌝ }
+    ensures { λ r. ⌜ Written (now (out .entry)) at (decimal n) (now (out .exit)) r ⌝ }
+{
+    if n < 100_000_000 {
+        return up_to_eight(out, at, n);
+    }
+    let a = up_to_sixteen(out, at, n / 100_000_000);
+    eight_digits(out, a, n % 100_000_000)
+}
