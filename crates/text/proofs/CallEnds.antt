@@ -5,7 +5,7 @@ use mathlib.Core.Bool.{Bool, true, false, cond, true≢false}
 use mathlib.Core.List.{List}
 use mathlib.Core.Logic.{_⊎_, inl, inr}
 use native.Mathlib.Omega.{arith}
-use native.Mathlib.Numerals.{add-three}
+use native.Mathlib.Numerals.{add-two}
 use lib.ListN.{length, drop, length-append, length-drop}
 use lib.Seq.{drop-drop}
 use lib.Dec.{ltb}
@@ -15,7 +15,9 @@ use Rattle.printing.specs.Put.{lineRoom}
 use Rattle.text.specs.declared.State.{State}
 use Rattle.text.specs.Stream.{Step, followed, step, steps, feedCall}
 use Rattle.printing.proofs.Cases.{by-cond}
-use Rattle.text.proofs.StepCases.{Present, StepCase, done, ended, last, waits, far, newline, unended, holds, step-case}
+use Rattle.text.proofs.Lines.{lineSize}
+use Rattle.text.proofs.TooFar.{near-bytes}
+use Rattle.text.proofs.StepCases.{Reading, Present, StepCase, done, ended, last, waits, far, newline, unended, holds, step-case}
 use Rattle.text.proofs.Steps.{steps-keep}
 use Rattle.text.proofs.Progress.{workLeft, NeedsInput, at-most-two, nothing-left, more-is-less, step-progress, stepsAfter, first-step}
 
@@ -25,13 +27,16 @@ case-used : {final : Bool} {st : State} {s : Sheet} {chunk : List ℕ} (r : Step
 case-used r (done e) = omega arith
 case-used r (ended on e) = omega arith
 case-used r (last q f h e) = omega arith
-case-used r (waits q f h plain) = omega arith
+case-used r (waits q f h plain near) = omega arith
 case-used r (far p e) = omega arith
 case-used r (newline n h) = omega arith
 case-used r (unended n f plain) = omega arith
 case-used r (holds n f plain h) = omega arith
 
 -- A call takes no more than the chunk.
+pub step-used : (final : Bool) (st : State) (s : Sheet) (chunk : List ℕ) → step final st s chunk .used ≤ length chunk
+step-used final st s chunk = case-used (step final st s chunk) (step-case final st s chunk)
+
 pub feed-used : (final : Bool) (st : State) (s : Sheet) (chunk : List ℕ) (room : ℕ) → feedCall final st s chunk room .used ≤ length chunk
 unfolding feedCall
 feed-used final st s chunk room =
@@ -41,24 +46,41 @@ feed-used final st s chunk room =
       one = λ st s chunk room h. case-used (step final st s chunk) (step-case final st s chunk);
       more = λ st s chunk room q h later. omega (arith, case-used (step final st s chunk) (step-case final st s chunk), simp length-drop at later);
     })
-    (length chunk + 3) st s chunk room
+    (length chunk + 2) st s chunk room
 
 -- ---- all that a call could do
 
+-- Only reading helps, and 10 is not due.
+pub record Waiting (final : Bool) (st : State) (chunk : List ℕ) : Type 0 where
+  pub needs : NeedsInput final chunk
+  pub reading : Reading st
+  pub near : 0 < length chunk → st .bytes + st .held + length chunk ≤ 33_000_000
+
 -- S is written, or only reading helps.
 abbrev pub Complete : Bool → List ℕ → Step → Type 0
-Complete final chunk r = (r .state .written ≡ true) ⊎ NeedsInput final (drop (r .used) chunk)
+Complete final chunk r = (r .state .written ≡ true) ⊎ Waiting final (r .state) (drop (r .used) chunk)
 
 -- A step that does not go on has done all,
 case-complete : {final : Bool} {st : State} {s : Sheet} {chunk : List ℕ} (r : Step) → StepCase final st s chunk r → r .more ≡ false → Complete final chunk r
 case-complete r (done e) m = inl e
 case-complete r (ended on e) m = inl refl
 case-complete r (last q f h e) m = inl refl
-case-complete r (waits q f h plain) m = inr (record { not-final = f; no-newline = plain; short = h })
+case-complete {st = st} {chunk = chunk} r (waits q f h plain near) m =
+    inr (record {
+      needs = record { not-final = f; no-newline = plain; short = h };
+      reading = q;
+      near = λ some. omega (arith, near-bytes (st .lines) (st .bytes + st .held + lineSize chunk) (near some));
+    })
 case-complete r (far p e) m = absurd (true≢false m)
 case-complete r (newline n h) m = absurd (true≢false m)
 case-complete r (unended n f plain) m = absurd (true≢false m)
-case-complete r (holds n f plain h) m = inr (record { not-final = f; no-newline = rw length-drop (omega arith); short = rw length-drop (omega arith) })
+case-complete {chunk = chunk} r (holds n f plain h) m =
+    let none = length-drop (lineSize chunk) chunk in
+    inr (record {
+      needs = record { not-final = f; no-newline = omega arith; short = omega arith };
+      reading = record { on = refl; reads = refl };
+      near = λ some. absurd (omega arith);
+    })
 
 -- and so have enough steps, unless there is no room for another line.
 steps-complete : (most : ℕ) (final : Bool) (st : State) (s : Sheet) (chunk : List ℕ) (room : ℕ) → workLeft st chunk ≤ most → (let r = steps most final st s chunk room in lineRoom + length (r .output) ≤ room → Complete final chunk r)
@@ -81,7 +103,7 @@ steps-complete (suc most) final st s chunk room l =
 -- Where a call leaves room for another line, S is written or only reading helps.
 pub feed-complete : (final : Bool) (st : State) (s : Sheet) (chunk : List ℕ) (room : ℕ) → (let r = feedCall final st s chunk room in lineRoom + length (r .output) ≤ room → Complete final chunk r)
 unfolding feedCall
-feed-complete final st s chunk room = steps-complete (length chunk + 3) final st s chunk room (omega (arith, at-most-two st))
+feed-complete final st s chunk room = steps-complete (length chunk + 2) final st s chunk room (omega (arith, at-most-two st))
 
 -- ---- what a call does at least
 
@@ -97,7 +119,7 @@ case-advances : {final : Bool} {st : State} {s : Sheet} {chunk : List ℕ} (r : 
 case-advances r (done e) some q = inl e
 case-advances r (ended on e) some q = inl refl
 case-advances r (last p f h e) some q = inl refl
-case-advances r (waits p f h plain) some q = inr (inr (record { not-final = f; no-newline = plain; short = h }))
+case-advances r (waits p f h plain near) some q = inr (inr (record { not-final = f; no-newline = plain; short = h }))
 case-advances {final} r (far p e) some q = inr (inl (omega (arith, in-chunk final p some)))
 case-advances r (newline n h) some q = inr (inl (omega arith))
 case-advances r (unended n f plain) some q = inr (inl (omega (arith, some f)))
@@ -107,6 +129,6 @@ case-advances r (holds n f plain h) some q = inr (inl (omega (arith, n .present 
 pub feed-advances : (final : Bool) (st : State) (s : Sheet) (chunk : List ℕ) (room : ℕ) → lineRoom ≤ room → (final ≡ true → 0 < length chunk) → Advances final chunk (feedCall final st s chunk room)
 unfolding feedCall
 feed-advances final st s chunk room h some =
-    let m = suc (suc (length chunk)) in
+    let m = suc (length chunk) in
     let r = step final st s chunk in
-    rw (add-three, first-step m final st s chunk room h) (case-advances r (step-case final st s chunk) some (stepsAfter m final r chunk room))
+    rw (add-two, first-step m final st s chunk room h) (case-advances r (step-case final st s chunk) some (stepsAfter m final r chunk room))

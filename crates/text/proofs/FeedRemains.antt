@@ -29,4 +29,4 @@ feed-remains final st s chunk room rest end =
       one = λ st s chunk room h. step-remains final st s chunk rest end;
       more = λ st s chunk room q h later. followed-remains st s chunk rest (step final st s chunk) q (step-remains final st s chunk rest end) later;
     })
-    (length chunk + 3) st s chunk room
+    (length chunk + 2) st s chunk room

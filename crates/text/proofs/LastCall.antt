@@ -21,18 +21,18 @@ unfolding steps
 closes most st s room h e = rw (le-ltb room lineRoom h, e)
 
 -- The first step writes S, or the second does.
-case-closes : (st : State) (s : Sheet) (room : ℕ) (r : Step) → StepCase true st s [] r → length (r .output) + lineRoom ≤ room → cond (r .more) (followed r (stepsAfter 2 true r [] room)) r .state .written ≡ true
+case-closes : (st : State) (s : Sheet) (room : ℕ) (r : Step) → StepCase true st s [] r → length (r .output) + lineRoom ≤ room → cond (r .more) (followed r (stepsAfter 1 true r [] room)) r .state .written ≡ true
 unfolding step lineLength
 case-closes st s room r (done e) h = e
 case-closes st s room r (ended on e) h = refl
 case-closes st s room r (last p f k e) h = refl
-case-closes st s room r (waits p f k plain) h = absurd (true≢false f)
-case-closes st s room r (far p e) h = closes 1 (r .state) s (room - length (r .output)) (omega arith) refl
+case-closes st s room r (waits p f k plain near) h = absurd (true≢false f)
+case-closes st s room r (far p e) h = closes 0 (r .state) s (room - length (r .output)) (omega arith) refl
 case-closes st s room r (newline n k) h = absurd (omega arith)
-case-closes st s room r (unended n f plain) h = closes 1 (r .state) (r .sheet) (room - length (r .output)) (omega arith) refl
+case-closes st s room r (unended n f plain) h = closes 0 (r .state) (r .sheet) (room - length (r .output)) (omega arith) refl
 case-closes st s room r (holds n f plain k) h = absurd (true≢false f)
 
 -- The S line is written.
 pub last-call : (st : State) (s : Sheet) (room : ℕ) → Fits st s → lineRoom + lineRoom ≤ room → feedCall true st s [] room .state .written ≡ true
 unfolding feedCall
-last-call st s room f h = rw (first-step 2 true st s [] room (omega arith)) (case-closes st s room (step true st s []) (step-case true st s []) (omega (arith, step-line true st s [] f .short)))
+last-call st s room f h = rw (first-step 1 true st s [] room (omega arith)) (case-closes st s room (step true st s []) (step-case true st s []) (omega (arith, step-line true st s [] f .short)))

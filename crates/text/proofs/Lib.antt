@@ -1,4 +1,5 @@
 pub mod Worked
+pub mod WorkedEnds
 pub mod Forms
 pub mod Lines
 pub mod TooFar
@@ -10,6 +11,7 @@ pub mod Steps
 pub mod FeedRemains
 pub mod Progress
 pub mod CallEnds
+pub mod BytesRead
 pub mod Room
 pub mod LastCall
 pub mod Chunks

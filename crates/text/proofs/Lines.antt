@@ -14,11 +14,6 @@ use Rattle.printing.proofs.Cases.{by-cond}
 
 -- ---- the first newline
 
-pub line-within : (c : List ℕ) → lineLength c ≤ length c
-unfolding lineLength
-line-within [] = omega arith
-line-within (b ∷ c) = by-cond (λ n. n ≤ suc (length c)) (eqb b 10) (λ e. omega arith) (λ e. omega (arith, line-within c))
-
 -- The bytes before it, the newline and the bytes after it.
 pub line-splits : (c : List ℕ) → lineLength c < length c → c ≡ take (lineLength c) c ++ 10 ∷ drop (suc (lineLength c)) c
 unfolding lineLength

@@ -1,5 +1,5 @@
 -- What the O lines and the S line say. An O line has the totals that the list call answers for the points accepted since the last accepted B line; the S line has
--- the number of the O lines and the sums of their totals. For the walks, points and sheets are those of the calls that the lines ask for.
+-- the number of the O lines and the sums of their totals. The walks, points and sheets are those of the calls that the lines ask for.
 use Prim.Native.Nat.{ℕ, _+_}
 use mathlib.Core.Path.{_≡_, refl, ap, subst, subst₂, _∙_}
 use mathlib.Core.Bool.{Bool, true, false, cond}
@@ -20,9 +20,9 @@ use Rattle.outline.proofs.CallCases.{EndCase, end-case}
 use Rattle.outline.proofs.WalkedOutline.{WalkedOutline, walked-outline}
 use Rattle.outline.proofs.SheetSums.{SheetSums, sheet-sums}
 use Rattle.forms.specs.Grammar.{Form, begin, end, abandon, point, other, formOf}
-use Rattle.printing.specs.Output.{outlineLine}
-use Rattle.text.specs.Program.{Line, Carried, carriedWalk, carriedEnd, carryOut}
-use Rattle.text.proofs.LinesInTurn.{carried, carriedAll}
+use Rattle.printing.specs.Output.{outlineLine, sheetLine}
+use Rattle.text.specs.Program.{Line, Carried, carriedWalk, carriedEnd, carryOut, linesFrom, program}
+use Rattle.text.proofs.LinesInTurn.{carried, carriedAll, linesWithin, lineBeyond, program-parts}
 
 -- ---- the calls that lines ask for
 
@@ -162,3 +162,15 @@ outline-law before l e =
     let r = after (from closed) (callsOf closed newSheet before) in
     let walk : r .walk ≡ c .walk = lines-walk before (from closed) newSheet in
     rw (e, ← lines-sums before .count, ← walk) (end-prints (l .number) r (c .sheet) (walked-outline closed refl (callsOf closed newSheet before)))
+
+-- The whole output: S has the number and the sums of the O lines of the lines within the limits.
+pub program-sheet : (input : List ℕ) → (let ls = linesFrom 0 0 [] input in let within = linesWithin ls in program input ≡ afterLines within .output ++ lineBeyond ls ++ sheetLine (record { count = length (outlinesIn within); totals = sumOf (outlinesIn within) }))
+program-sheet input =
+    let ls = linesFrom 0 0 [] input in
+    let within = linesWithin ls in
+    program-parts input ∙ ap (λ s. afterLines within .output ++ lineBeyond ls ++ sheetLine s) (sheet-law within)
+
+-- The totals that an accepted end counts for S are those of its O line.
+pub line-outline : (r : Trace) (s : Sheet) → WalkedOutline r → endCall (r .walk) s .number ≡ 0 → outlineOf end (r .walk) s ≡ listCall (numbers (r .points)) .totals ∷ []
+unfolding outlineOf
+line-outline r s o z = rw (z, o .same s z)

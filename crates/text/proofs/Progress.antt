@@ -1,12 +1,12 @@
 -- Progress: each step that goes on, and each call with room for a line, leaves less work, unless only reading helps. So the steps that a call may make are no limit.
-use Prim.Native.Nat.{ℕ, zero, suc, _+_, _-_, _≤_, _<_}
+use Prim.Native.Nat.{ℕ, zero, suc, _+_, _-_, _≤_, _<_, min}
 use mathlib.Core.Path.{_≡_, refl, sym, ap, _∙_}
 use mathlib.Core.Bool.{Bool, true, false, cond, true≢false}
-use mathlib.Core.List.{List}
+use mathlib.Core.List.{List, []}
 use mathlib.Core.Logic.{_⊎_, inl, inr}
 use native.Mathlib.Omega.{arith}
-use native.Mathlib.Numerals.{add-three}
-use lib.ListN.{length, drop, length-drop}
+use native.Mathlib.Numerals.{add-two}
+use lib.ListN.{length, drop, length-append, length-drop}
 use lib.Seq.{drop-drop}
 use lib.Dec.{eqb, ltb}
 use borrow.Author.Tests.{eqb-true, le-ltb}
@@ -48,16 +48,16 @@ module _ (st : State) (r : Reading st) (n : ℕ) where
   long-ahead : 0 < n → 32 < st .held + n → 2 < n + linesAhead st
   long-ahead h k = rw (r .on, r .reads) (by-cond (λ k. 2 < n + k) (eqb (st .held) 0) (λ e. omega (arith, eqb-true (st .held) 0 e)) (λ e. omega arith))
 
--- A step leaves all as it was, and goes on no further, or leaves less work.
+-- A step leaves all as it was, writes nothing and goes on no further, or leaves less work.
 pub data StepProgress (final : Bool) (st : State) (chunk : List ℕ) (r : Step) : Type 0 where
-  stays : r .more ≡ false → workLeft (r .state) (drop (r .used) chunk) ≡ workLeft st chunk → (st .written ≡ false → NeedsInput final chunk) → StepProgress final st chunk r
+  stays : r .more ≡ false → r .output ≡ [] → workLeft (r .state) (drop (r .used) chunk) ≡ workLeft st chunk → (st .written ≡ false → NeedsInput final chunk) → StepProgress final st chunk r
   less : workLeft (r .state) (drop (r .used) chunk) < workLeft st chunk → StepProgress final st chunk r
 
 case-progress : (final : Bool) (st : State) (s : Sheet) (chunk : List ℕ) (r : Step) → StepCase final st s chunk r → StepProgress final st chunk r
-case-progress final st s chunk r (done e) = stays refl refl (λ on. absurd (true≢false (sym e ∙ on)))
+case-progress final st s chunk r (done e) = stays refl refl refl (λ on. absurd (true≢false (sym e ∙ on)))
 case-progress final st s chunk r (ended on e) = less (rw (on, e) (omega arith))
 case-progress final st s chunk r (last q f h e) = less (rw (q .on, q .reads, h) (omega arith))
-case-progress final st s chunk r (waits q f h plain) = stays refl refl (λ on. record { not-final = f; no-newline = plain; short = h })
+case-progress final st s chunk r (waits q f h plain near) = stays refl refl refl (λ on. record { not-final = f; no-newline = plain; short = h })
 case-progress final st s chunk r (far p e) = less (rw length-drop (omega (arith, line-ahead st (p .reading) (length chunk) (p .some))))
 case-progress final st s chunk r (newline n h) = less (rw length-drop (omega (arith, line-ahead st (n .present .reading) 1 (omega arith))))
 case-progress final st s chunk r (unended n f plain) = less (rw length-drop (omega (arith, line-ahead st (n .present .reading) (length chunk) (n .present .some))))
@@ -69,7 +69,7 @@ step-progress final st s chunk = case-progress final st s chunk (step final st s
 
 -- and one that goes on leaves less.
 pub more-is-less : {final : Bool} {st : State} {chunk : List ℕ} {r : Step} → StepProgress final st chunk r → r .more ≡ true → workLeft (r .state) (drop (r .used) chunk) < workLeft st chunk
-more-is-less (stays m e w) t = absurd (true≢false (sym t ∙ m))
+more-is-less (stays m o e w) t = absurd (true≢false (sym t ∙ m))
 more-is-less (less h) t = h
 
 -- ---- calls
@@ -78,20 +78,27 @@ more-is-less (less h) t = h
 abbrev pub stepsAfter : ℕ → Bool → Step → List ℕ → ℕ → Step
 stepsAfter most final r chunk room = steps most final (r .state) (r .sheet) (drop (r .used) chunk) (room - length (r .output))
 
--- No call leaves more work.
-steps-onward : (most : ℕ) (final : Bool) (st : State) (s : Sheet) (chunk : List ℕ) (room : ℕ) → (let r = steps most final st s chunk room in workLeft (r .state) (drop (r .used) chunk) ≤ workLeft st chunk)
+-- No call leaves more work, and one that writes leaves less.
+abbrev pub Onward : State → List ℕ → Step → Type 0
+Onward st chunk r = workLeft (r .state) (drop (r .used) chunk) + min 1 (length (r .output)) ≤ workLeft st chunk
+
+step-onward : {final : Bool} {st : State} {chunk : List ℕ} {r : Step} → StepProgress final st chunk r → Onward st chunk r
+step-onward (stays m o e w) = omega (arith, ap length o)
+step-onward (less h) = omega arith
+
+steps-onward : (most : ℕ) (final : Bool) (st : State) (s : Sheet) (chunk : List ℕ) (room : ℕ) → Onward st chunk (steps most final st s chunk room)
 steps-onward most final =
-    steps-keep final (λ st s chunk room r. workLeft (r .state) (drop (r .used) chunk) ≤ workLeft st chunk)
+    steps-keep final (λ st s chunk room r. Onward st chunk r)
     (record {
       none = λ st s chunk room. omega arith;
-      one = λ st s chunk room h. onward (step-progress final st s chunk);
-      more = λ st s chunk room q h later. rw (← drop-drop) (omega (arith, onward (step-progress final st s chunk)));
+      one = λ st s chunk room h. step-onward (step-progress final st s chunk);
+      more = λ st s chunk room q h later. rw (← drop-drop, length-append) (omega (arith, step-onward (step-progress final st s chunk)));
     })
     most
-  where
-    onward : {st : State} {chunk : List ℕ} {r : Step} → StepProgress final st chunk r → workLeft (r .state) (drop (r .used) chunk) ≤ workLeft st chunk
-    onward (stays m e w) = omega arith
-    onward (less h) = omega arith
+
+pub feed-onward : (final : Bool) (st : State) (s : Sheet) (chunk : List ℕ) (room : ℕ) → Onward st chunk (feedCall final st s chunk room)
+unfolding feedCall
+feed-onward final st s chunk room = steps-onward (length chunk + 2) final st s chunk room
 
 -- A call with room for a line makes a step, and goes on after it where the step says so.
 pub first-step : (most : ℕ) (final : Bool) (st : State) (s : Sheet) (chunk : List ℕ) (room : ℕ) → lineRoom ≤ room → (let r = step final st s chunk in steps (suc most) final st s chunk room ≡ cond (r .more) (followed r (stepsAfter most final r chunk room)) r)
@@ -99,7 +106,7 @@ unfolding steps
 first-step most final st s chunk room h = rw (le-ltb room lineRoom h)
 
 first-progress : (most : ℕ) (final : Bool) (st : State) (chunk : List ℕ) (room : ℕ) → st .written ≡ false → (r : Step) → StepProgress final st chunk r → (let q = cond (r .more) (followed r (stepsAfter most final r chunk room)) r in NeedsInput final chunk ⊎ (workLeft (q .state) (drop (q .used) chunk) < workLeft st chunk))
-first-progress most final st chunk room on r (stays m e w) = inl (w on)
+first-progress most final st chunk room on r (stays m o e w) = inl (w on)
 first-progress most final st chunk room on r (less h) =
     inr (by-cond (λ (q : Step). workLeft (q .state) (drop (q .used) chunk) < workLeft st chunk) (r .more)
     (λ m. rw (← drop-drop) (omega (arith, steps-onward most final (r .state) (r .sheet) (drop (r .used) chunk) (room - length (r .output)))))
@@ -108,7 +115,7 @@ first-progress most final st chunk room on r (less h) =
 -- A call with room for a line, where S is not written yet, leaves less work, or only reading helps.
 pub feed-progress : (final : Bool) (st : State) (s : Sheet) (chunk : List ℕ) (room : ℕ) → lineRoom ≤ room → st .written ≡ false → (let r = feedCall final st s chunk room in NeedsInput final chunk ⊎ (workLeft (r .state) (drop (r .used) chunk) < workLeft st chunk))
 unfolding feedCall
-feed-progress final st s chunk room h on = rw (add-three, first-step (suc (suc (length chunk))) final st s chunk room h) (first-progress (suc (suc (length chunk))) final st chunk room on (step final st s chunk) (step-progress final st s chunk))
+feed-progress final st s chunk room h on = rw (add-two, first-step (suc (length chunk)) final st s chunk room h) (first-progress (suc (length chunk)) final st chunk room on (step final st s chunk) (step-progress final st s chunk))
 
 -- ---- the number of steps that a call may make is no limit
 
@@ -147,4 +154,4 @@ enough-steps (suc a) (suc b) final st s chunk room h k =
 -- A call that might make more steps would do the same: two more than the chunk has bytes are enough.
 pub feed-steps : (most : ℕ) (final : Bool) (st : State) (s : Sheet) (chunk : List ℕ) (room : ℕ) → length chunk + 2 ≤ most → steps most final st s chunk room ≡ feedCall final st s chunk room
 unfolding feedCall
-feed-steps most final st s chunk room h = enough-steps most (length chunk + 3) final st s chunk room (omega (arith, at-most-two st)) (omega (arith, at-most-two st))
+feed-steps most final st s chunk room h = enough-steps most (length chunk + 2) final st s chunk room (omega (arith, at-most-two st)) (omega (arith, at-most-two st))

@@ -152,7 +152,7 @@ module _ (final : Bool) (st : State) (s : Sheet) (chunk : List ℕ) (f : Fits st
   case-line r (done e) = record { short = omega arith; fits = f }
   case-line r (ended on e) = record { short = sheet-length s (f .sheet .count) (f .sheet .totals); fits = record { lines = f .lines; sheet = f .sheet } }
   case-line r (last q g h e) = record { short = sheet-length s (f .sheet .count) (f .sheet .totals); fits = record { lines = f .lines; sheet = f .sheet } }
-  case-line r (waits q g h plain) = record { short = omega arith; fits = f }
+  case-line r (waits q g h plain near) = record { short = omega arith; fits = f }
   case-line r (far p e) = record { short = refusal-length (st .lines + 1) 10 (omega (arith, f .lines)) (omega arith); fits = record { lines = f .lines; sheet = f .sheet } }
   case-line r (newline n h) = near-line n
   case-line r (unended n g plain) = near-line n
@@ -172,4 +172,4 @@ feed-room final st s chunk room =
       one = λ st s chunk room h f. let l = step-line final st s chunk f in (omega (arith, l .short), l .fits);
       more = λ st s chunk room q h later f. let l = step-line final st s chunk f in let k = later (l .fits) in (simp length-append (omega (arith, l .short, k .0)), k .1);
     })
-    (length chunk + 3) st s chunk room
+    (length chunk + 2) st s chunk room

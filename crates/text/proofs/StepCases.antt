@@ -1,12 +1,13 @@
 -- The ways that a step of the streaming core can go, each with what is known there. What is shown of steps goes by these cases.
 use Prim.Native.Nat.{ℕ, _+_, _≤_, _<_}
-use mathlib.Core.Path.{_≡_}
-use mathlib.Core.Bool.{Bool, true, false, not, _||_, true≢false}
+use mathlib.Core.Path.{_≡_, refl, sym, _∙_}
+use mathlib.Core.Bool.{Bool, true, false, not, _&&_, true≢false}
 use mathlib.Core.List.{List, []}
 use native.Mathlib.Omega.{arith}
 use lib.ListN.{length}
 use lib.Dec.{eqb, ltb, leb}
 use borrow.Author.Tests.{ltb-true, ltb-false, leb-true, leb-false, eqb-true, eqb-false}
+use Rattle.integers.proofs.Flags.{and-left, and-right}
 use Rattle.outline.specs.declared.Sheet.{Sheet}
 use Rattle.text.specs.declared.State.{State}
 use Rattle.forms.specs.ReadForm.{lineLength}
@@ -44,7 +45,7 @@ pub data StepCase (final : Bool) (st : State) (s : Sheet) (chunk : List ℕ) : S
   -- The input has ended and nothing is left: the S line.
   last : Reading st → final ≡ true → st .held ≡ 0 → length chunk ≡ 0 → StepCase final st s chunk (closing st s)
   -- The line may still have a form: more of it must be read.
-  waits : Reading st → final ≡ false → length chunk ≤ 32 → length chunk ≤ lineLength chunk → StepCase final st s chunk (halted st s)
+  waits : Reading st → final ≡ false → length chunk ≤ 32 → length chunk ≤ lineLength chunk → (0 < length chunk → beyond (st .lines) (st .bytes + st .held + lineSize chunk) ≡ false) → StepCase final st s chunk (halted st s)
   -- 10.
   far : Present final st chunk → beyond (st .lines) (st .bytes + st .held + lineSize chunk) ≡ true → StepCase final st s chunk (ending st s chunk)
   -- A line with its newline, or the last line without one.
@@ -57,7 +58,7 @@ module _ (final : Bool) (st : State) (s : Sheet) (chunk : List ℕ) where
   part-case : Near final st chunk → final ≡ false → length chunk ≤ lineLength chunk → StepCase final st s chunk (part st s (lineSize chunk))
   part-case n f plain =
       by-cond (StepCase final st s chunk) (leb (st .held + lineSize chunk) 32)
-      (λ e. waits (n .present .reading) f (omega (arith, leb-true (st .held + lineSize chunk) 32 e)) plain)
+      (λ e. waits (n .present .reading) f (omega (arith, leb-true (st .held + lineSize chunk) 32 e)) plain (λ h. n .near))
       (λ e. holds n f plain (leb-false (st .held + lineSize chunk) 32 e))
 
   line-case : Present final st chunk → StepCase final st s chunk (lineStep final st s chunk)
@@ -79,15 +80,19 @@ module _ (final : Bool) (st : State) (s : Sheet) (chunk : List ℕ) where
       by-cond (StepCase final st s chunk) (st .written) done (λ on.
       by-cond (StepCase final st s chunk) (st .ended) (ended on) (λ e.
       let r : Reading st = record { on = on; reads = e } in
-      by-and (StepCase final st s chunk) (eqb (length chunk) 0) (not final || eqb (st .held) 0)
-      (λ t u.
-      let empty : length chunk ≡ 0 = eqb-true (length chunk) 0 t in
-      by-cond (StepCase final st s chunk) final
-      (λ f. last r f (eqb-true (st .held) 0 (rw f at u)) empty)
-      (λ f. waits r f (omega arith) (omega arith)))
-      (λ t. line-case (record { reading = r; some = omega (arith, eqb-false (length chunk) 0 t); bytes = λ f. omega (arith, eqb-false (length chunk) 0 t) }))
-      (λ t u. line-case (record { reading = r; some = held-left (not final) u; bytes = λ f. absurd (true≢false (rw f at u)) }))))
+      by-and (StepCase final st s chunk) final (eqb (length chunk) 0 && eqb (st .held) 0)
+      (λ f t. last r f (eqb-true (st .held) 0 (and-right (eqb (length chunk) 0) (eqb (st .held) 0) t)) (eqb-true (length chunk) 0 (and-left (eqb (length chunk) 0) (eqb (st .held) 0) t)))
+      (λ f.
+      by-and (StepCase final st s chunk) (not final) (eqb (length chunk) 0)
+      (λ g t. let empty : length chunk ≡ 0 = eqb-true (length chunk) 0 t in waits r f (omega arith) (omega arith) (λ h. absurd (omega arith)))
+      (λ g. absurd (true≢false (rw f at g)))
+      (λ g t. line-case (record { reading = r; some = omega (arith, eqb-false (length chunk) 0 t); bytes = λ e. omega (arith, eqb-false (length chunk) 0 t) })))
+      (λ f t.
+      by-and (StepCase final st s chunk) (not final) (eqb (length chunk) 0)
+      (λ g. absurd (true≢false (sym (rw f at g))))
+      (λ g. line-case (record { reading = r; some = some-left (eqb (length chunk) 0) refl t; bytes = λ e. absurd (true≢false (sym f ∙ e)) }))
+      (λ g. absurd (true≢false (sym (rw f at g)))))))
     where
-      held-left : (b : Bool) → (b || eqb (st .held) 0) ≡ false → 0 < st .held + length chunk
-      held-left true e = absurd (true≢false e)
-      held-left false e = omega (arith, eqb-false (st .held) 0 e)
+      some-left : (z : Bool) → eqb (length chunk) 0 ≡ z → (z && eqb (st .held) 0) ≡ false → 0 < st .held + length chunk
+      some-left true e t = omega (arith, eqb-false (st .held) 0 t)
+      some-left false e t = omega (arith, eqb-false (length chunk) 0 e)

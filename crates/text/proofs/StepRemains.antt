@@ -72,7 +72,7 @@ case-remains : (final : Bool) (st : State) (s : Sheet) (chunk rest : List ℕ) �
 case-remains final st s chunk rest end r (done e) = refl
 case-remains final st s chunk rest end r (ended on e) = ended-remains st s chunk rest on e
 case-remains final st s chunk rest end r (last q f h e) = last-remains st s chunk rest q h e (end f)
-case-remains final st s chunk rest end r (waits q f h plain) = refl
+case-remains final st s chunk rest end r (waits q f h plain near) = refl
 case-remains final st s chunk rest end r (far p e) = far-step st s chunk rest p e
 case-remains final st s chunk rest end r (newline n h) = whole-remains st s chunk rest n (lines-whole (st .lines) (st .bytes) (heldBytes st) chunk rest h)
 case-remains final st s chunk rest end r (unended n f plain) = subst (λ l. Remains st s chunk l r) (sym (end f)) (unended-remains st s chunk n plain)

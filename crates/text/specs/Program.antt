@@ -19,7 +19,7 @@ pub record Line : Type 0 where
   pub bytes : List ℕ
 
 -- The lines of the rest of the input, after `count` lines of `size` bytes in all and the bytes `held` of the present line.
--- A last line without a newline counts if it has a byte.
+-- What is left at the end of the input without a newline is a line too, unless nothing is.
 unfoldable pub linesFrom : ℕ → ℕ → List ℕ → List ℕ → List Line
 linesFrom count size [] [] = []
 linesFrom count size (b ∷ held) [] = record { number = count + 1; last = size + length (b ∷ held); bytes = b ∷ held } ∷ []
@@ -40,8 +40,11 @@ pub record Carried : Type 0 where
   pub sheet : Sheet
 
 -- Begin, point and abandon print nothing but a refusal.
+abbrev pub told : ℕ → ℕ → List ℕ
+told line number = cond (eqb number 0) [] (refusalLine line number)
+
 unfoldable pub carriedWalk : ℕ → WalkOutcome → Sheet → Carried
-carriedWalk line r s = record { output = cond (eqb (r .number) 0) [] (refusalLine line (r .number)); walk = r .walk; sheet = s }
+carriedWalk line r s = record { output = told line (r .number); walk = r .walk; sheet = s }
 
 -- End prints the outline's line, with the sheet's count after it, or a refusal.
 unfoldable pub carriedEnd : ℕ → ℕ → EndOutcome → Carried

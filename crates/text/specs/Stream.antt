@@ -7,6 +7,7 @@ use lib.Dec.{leb, ltb, eqb}
 use lib.ListN.{length, take, drop, replicate}
 use Rattle.outline.specs.declared.Walk.{Walk}
 use Rattle.outline.specs.declared.Sheet.{Sheet}
+use Rattle.outline.specs.WalkCalls.{closed}
 use Rattle.text.specs.declared.State.{State}
 use Rattle.forms.specs.Grammar.{formOf}
 use Rattle.forms.specs.ReadForm.{lineLength}
@@ -21,6 +22,10 @@ pub record Step : Type 0 where
   pub state : State
   pub sheet : Sheet
   pub more : Bool
+
+-- The state before the first byte.
+abbrev pub start : State
+start = record { lines = 0; bytes = 0; held = 0; ended = false; written = false; walk = closed }
 
 abbrev pub halted : State → Sheet → Step
 halted st s = record { output = []; used = 0; state = st; sheet = s; more = false }
@@ -40,21 +45,20 @@ ending st s chunk =
       more = true;
     }
 
--- The bytes that are gone of a line stand for themselves as zeros: no form has one.
+-- Zeros stand for the bytes of a line that are gone: no form has one.
 abbrev pub heldBytes : State → List ℕ
 heldBytes st = replicate (st .held) 0
 
+-- A line of `size` bytes that is carried out, and counted.
+abbrev pub afterLine : State → Walk → ℕ → State
+afterLine st w size = record { lines = st .lines + 1; bytes = st .bytes + st .held + size; held = 0; ended = false; written = false; walk = w }
+
+abbrev pub carriedStep : State → Carried → ℕ → Step
+carriedStep st c size = record { output = c .output; used = size; state = afterLine st (c .walk) size; sheet = c .sheet; more = true }
+
 -- A whole line, of `n` bytes in the chunk without its newline and `size` with it.
 abbrev pub whole : State → Sheet → List ℕ → ℕ → ℕ → Step
-whole st s chunk n size =
-    let r = carryOut (st .lines + 1) (formOf (heldBytes st ++ take n chunk)) (st .walk) s in
-    record {
-      output = r .output;
-      used = size;
-      state = record { lines = st .lines + 1; bytes = st .bytes + st .held + size; held = 0; ended = false; written = false; walk = r .walk };
-      sheet = r .sheet;
-      more = true;
-    }
+whole st s chunk n size = carriedStep st (carryOut (st .lines + 1) (formOf (heldBytes st ++ take n chunk)) (st .walk) s) size
 
 -- Part of a line: it stays in the chunk while it may still have a form; else it is taken, and only its size is kept.
 abbrev pub part : State → Sheet → ℕ → Step
@@ -71,13 +75,15 @@ lineStep final st s chunk =
     (cond (ltb n (length chunk) || final) (whole st s chunk n size)
     (part st s size))
 
--- One step: nothing once the S line is written; the S line once reading has ended, or nothing is left at the end of the input; else a line.
+-- One step: nothing once the S line is written; the S line once reading has ended, or nothing is left at the end of the input; nothing where more must be read;
+-- else a line.
 unfoldable pub step : Bool → State → Sheet → List ℕ → Step
 step final st s chunk =
     cond (st .written) (halted st s)
     (cond (st .ended) (closing st s)
-    (cond (eqb (length chunk) 0 && (not final || eqb (st .held) 0)) (cond final (closing st s) (halted st s))
-    (lineStep final st s chunk)))
+    (cond (final && (eqb (length chunk) 0 && eqb (st .held) 0)) (closing st s)
+    (cond (not final && eqb (length chunk) 0) (halted st s)
+    (lineStep final st s chunk))))
 
 -- r and then q.
 abbrev pub followed : Step → Step → Step
@@ -91,9 +97,9 @@ steps (suc most) final st s chunk room =
     cond (ltb room lineRoom) (halted st s)
     (cond (r .more) (followed r (steps most final (r .state) (r .sheet) (drop (r .used) chunk) (room - length (r .output)))) r)
 
--- A call: each step that goes on takes a byte, but for two (a line of which all bytes are gone, and 10 on it).
+-- A call: each step that goes on takes a byte, but for one (a line of which all bytes are gone, or 10 on it), and the S line may follow.
 unfoldable pub feedCall : Bool → State → Sheet → List ℕ → ℕ → Step
-feedCall final st s chunk room = steps (length chunk + 3) final st s chunk room
+feedCall final st s chunk room = steps (length chunk + 2) final st s chunk room
 
 -- What is still to be written where `rest` is still to come.
 unfoldable pub remaining : State → Sheet → List ℕ → List ℕ
