@@ -1,0 +1,4 @@
+pub mod Answers
+pub mod EndLines
+pub mod LineAsks
+pub mod CarriedOut

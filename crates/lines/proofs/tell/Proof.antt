@@ -1,0 +1,35 @@
+-- `tell` writes nothing for the number 0.
+use Prim.Native.Nat.{ℕ, _+_}
+use mathlib.Core.Path.{sym}
+use mathlib.Core.List.{List, []}
+use native.Mathlib.Omega.{arith}
+use lib.Dec.{ltb}
+use lib.ListN.{length}
+use borrow.Author.Needs.{needs}
+use borrow.Author.Tests.{eq-eqb, ne-eqb}
+use Rattle.printing.specs.Put.{lineRoom, fitting, Written}
+use Rattle.printing.proofs.Cases.{by-cond}
+use Rattle.printing.proofs.PutLaws.{put-nothing}
+use Rattle.lines.proofs.tell.Statement.{statement}
+use Rattle.lines.proofs.tell.Tie as tie
+
+nothing-written : (o : List ℕ) (at : ℕ) → Written o at (fitting o at []) o at
+unfolding fitting
+nothing-written o at =
+    let w : Written o at [] o at = record { buffer = sym (put-nothing o at); end = omega arith } in
+    by-cond (λ text. Written o at text o at) (ltb (length o) (at + lineRoom)) (λ e. w) (λ e. w)
+
+returns : tie.Need-returns
+returns c = let s = c .before .before in rw (eq-eqb (s .args .number) 0 (c .if1 .taken)) (nothing-written (s .args .out .now) (s .args .at))
+
+put-refusal-requires : tie.Need-put-refusal-requires
+put-refusal-requires c κs = search needs
+
+same-length : tie.Need-same-length
+same-length c = search needs
+
+returns-2 : tie.Need-returns-2
+returns-2 c = let s = c .before .before .before .before .before .before in rw (ne-eqb (s .args .number) 0 (c .before .before .before .before .if1 .left)) (c .before .before .put-refusal .ensures)
+
+pub tell-spec : {M : Type 1} → statement M
+tell-spec = tie.close (tie.spec returns put-refusal-requires same-length returns-2)

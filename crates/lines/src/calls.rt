@@ -1,0 +1,102 @@
+// The calls of a walk, answered by number.
+ghost use mathlib.Core.Path.{_≡_};
+ghost use Rattle.outline.specs.WalkCalls.{beginCall, pointCall, abandonCall};
+ghost use Rattle.lines.specs.LineOutcomes.{answered};
+use crate::Asked;
+use outline::Walk;
+
+pub(crate) fn begin_walk(w: Walk, size: usize) -> Asked
+    ensures { λ r. ⌜ r ≡ answered (beginCall w) size ⌝ }
+{
+    let r = begin_abandon::begin(w);
+    let walk = r.walk;
+    let a = r.answer;
+    match a {
+        begin_abandon::BeginAnswer::Accepted => Asked {
+            walk,
+            number: 0,
+            size,
+            is_end: false,
+        },
+        begin_abandon::BeginAnswer::Unsound => Asked {
+            walk,
+            number: 28,
+            size,
+            is_end: false,
+        },
+        begin_abandon::BeginAnswer::AlreadyOpen => Asked {
+            walk,
+            number: 22,
+            size,
+            is_end: false,
+        },
+    }
+}
+
+pub(crate) fn abandon_walk(w: Walk, size: usize) -> Asked
+    ensures { λ r. ⌜ r ≡ answered (abandonCall w) size ⌝ }
+{
+    let r = begin_abandon::abandon(w);
+    let walk = r.walk;
+    let a = r.answer;
+    match a {
+        begin_abandon::AbandonAnswer::Accepted => Asked {
+            walk,
+            number: 0,
+            size,
+            is_end: false,
+        },
+        begin_abandon::AbandonAnswer::Unsound => Asked {
+            walk,
+            number: 28,
+            size,
+            is_end: false,
+        },
+        begin_abandon::AbandonAnswer::NotOpen => Asked {
+            walk,
+            number: 21,
+            size,
+            is_end: false,
+        },
+    }
+}
+
+pub(crate) fn extend_walk(w: Walk, x: i32, y: i32, size: usize) -> Asked
+    ensures { λ r. ⌜ r ≡ answered (pointCall w (record { x = x; y = y })) size ⌝ }
+{
+    let r = survey::point(w, x, y);
+    let walk = r.walk;
+    let a = r.answer;
+    match a {
+        survey::PointAnswer::Accepted => Asked {
+            walk,
+            number: 0,
+            size,
+            is_end: false,
+        },
+        survey::PointAnswer::Unsound => Asked {
+            walk,
+            number: 28,
+            size,
+            is_end: false,
+        },
+        survey::PointAnswer::NotOpen => Asked {
+            walk,
+            number: 21,
+            size,
+            is_end: false,
+        },
+        survey::PointAnswer::OutsideLimits => Asked {
+            walk,
+            number: 1,
+            size,
+            is_end: false,
+        },
+        survey::PointAnswer::Full => Asked {
+            walk,
+            number: 23,
+            size,
+            is_end: false,
+        },
+    }
+}
