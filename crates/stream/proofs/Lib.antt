@@ -1,0 +1,4 @@
+pub mod Places
+pub mod LineLaws
+pub mod StepLaws
+pub mod FeedLaws
