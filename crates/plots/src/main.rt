@@ -1,0 +1,96 @@
+// Document 01's text program, from standard input to standard output. What the bytes give is `stream`'s to say; here they are read and written, 64 KB at a time.
+ghost use mathlib.Core.Path.{_≡_};
+ghost use Prim.Native.Nat.{_+_, _-_, _≤_, _<_};
+ghost use lib.ListN.{length, take, drop};
+ghost use Rattle.printing.specs.Put.{put};
+
+// Brings the bytes from `from` up to `to` to the front; answers how many they are.
+fn shift(buf: &mut [u8], from: usize, to: usize) -> usize
+    requires { ⌜ (from ≤ to) × (to ≤ length (now buf)) ⌝ }
+    ensures { λ r. ⌜ r ≡ to - from ⌝ }
+    ensures { λ r. ⌜ now (buf .exit) ≡ put (now (buf .entry)) 0 (take (to - from) (drop from (now (buf .entry)))) ⌝ }
+{
+    let n = to - from;
+    let mut i = 0;
+    while i < n {
+        buf[i] = buf[from + i];
+        i += 1;
+    }
+    n
+}
+
+// What a read gave.
+struct Received {
+    failed: bool,
+    size: usize,
+}
+
+// One read after the first `have` bytes. There is room: a read into none would look like the end of the input.
+fn read_after(buf: &mut [u8], have: usize) -> Received
+    requires { ⌜ have < length (now buf) ⌝ }
+    ensures { λ r. ⌜ r .size ≤ length (now (buf .entry)) - have ⌝ }
+    ensures { λ r. ⌜ take have (now (buf .exit)) ≡ take have (now (buf .entry)) ⌝ }
+{
+    let part = &mut buf[have..];
+    let got = libc::read(0, part);
+    let size = io::count(got, part);
+    Received {
+        failed: got < 0,
+        size,
+    }
+}
+
+fn report_unread() {
+    io::write_all(2, b"plots: the input could not be read\n");
+}
+
+fn report_unwritten() {
+    io::write_all(2, b"plots: the output could not be written\n");
+}
+
+// All that a call has put is written. Where it has left room for another line, it has done what it could, and only reading helps. (proofs/Turns shows that this comes
+// to an end, with 10 if not before.) An S line means that all of the input was seen: none follows a read or a write that failed.
+fn run(buf: &mut [u8], out: &mut [u8])
+    requires { ⌜ 65536 ≡ length (now buf) ⌝ }
+    requires { ⌜ 65536 ≡ length (now out) ⌝ }
+{
+    let mut state = stream::start();
+    let mut sheet = begin_abandon::new_sheet();
+    let mut at: usize = 0;
+    let mut have: usize = 0;
+    let mut last = false;
+    loop {
+        let f = stream::feed(state, sheet, &buf[at..have], last, out);
+        let put = f.put;
+        if !io::write_all(1, &out[..put]) {
+            report_unwritten();
+            return;
+        }
+        let s = f.state;
+        let sh = f.sheet;
+        state = s;
+        sheet = sh;
+        at = at + f.used;
+        if s.written {
+            return;
+        }
+        if out.len() - put < 192 {
+            continue;
+        }
+        have = shift(buf, at, have);
+        at = 0;
+        let r = read_after(buf, have);
+        if r.failed {
+            report_unread();
+            return;
+        }
+        last = r.size == 0;
+        have += r.size;
+    }
+}
+
+fn main() {
+    let mut buf = io::large_buffer();
+    let mut out = io::large_buffer();
+    run(&mut buf, &mut out);
+}
