@@ -1,0 +1,27 @@
+-- `worked_plots::plots::point_1025` meets its contract: the walk is that of 256 rounds.
+use mathlib.Core.Path.{ap, _∙_}
+use borrow.Author.Needs.{needs}
+use mir.Facts.{toZ-ofZ}
+use Rattle.outline.specs.WalkCalls.{pointCall}
+use Rattle.worked_plots.specs.Plots.{walkedSquare}
+use Rattle.worked_plots.proofs.plots.point_1025.Statement.{statement}
+use Rattle.worked_plots.proofs.plots.point_1025.Tie as tie
+
+new-walk-requires : tie.Need-new-walk-requires
+new-walk-requires c κs = search needs
+
+walk-square-requires : tie.Need-walk-square-requires
+walk-square-requires c κs = search needs
+
+point-requires : tie.Need-point-requires
+point-requires c κs = search needs
+
+returns : tie.Need-returns
+returns c =
+    let s = c .before .before .before in
+    let walk = c .before .walk-square .ensures ∙ ap walkedSquare (c .before .before .new-walk .ensures) in
+    c .point .ensures ∙ (λ i. pointCall (walk i) (record { x = toZ-ofZ (s .fits .x) i; y = toZ-ofZ (s .fits .y) i }))
+
+pub point-1025-spec : {M : Type 1} → statement M
+point-1025-spec =
+    tie.close (tie.spec new-walk-requires walk-square-requires point-requires returns)

@@ -1,0 +1,135 @@
+-- Document 01, "Plots worked by hand": the plots marked ✱ as one list of rows, each what is asked and the figures that are answered; and rows for "Errors a
+-- surveyor would not notice".
+use Prim.Native.Nat.{ℕ}
+use mathlib.Core.Path.{_≡_}
+use mathlib.Core.List.{List, [], _∷_, _++_, map}
+use lib.IntN.{ℤ, pos, negℤ}
+use Rattle.outline.specs.declared.Position.{Position}
+use Rattle.outline.specs.declared.Totals.{Totals}
+use Rattle.outline.specs.declared.AffineMap.{AffineMap}
+use Rattle.outline.specs.EdgeSums.{zeros}
+use Rattle.outline.specs.ListCall.{Outcome, accepted, numbers, listCall}
+use Rattle.outline.specs.MapCall.{mapCall}
+use Rattle.outline.specs.Pieces.{Piece, Cut, piecesOf, totalsOf}
+use Rattle.centroid.specs.declared.CellSums.{CellSums}
+use Rattle.centroid.specs.Centroid.{CentroidOutcome, refused, outlineCentroidCall, regionCentroidCall}
+use Rattle.cells.specs.declared.Run.{Run}
+use Rattle.cells.specs.RegionCall.{RegionOutcome, regionCall}
+
+-- ---- rows
+
+pub data Row : Type 0 where
+  -- The call on a whole list, for the points of an outline.
+  list : List Position → Outcome → Row
+  -- The centre of the totals that it answers.
+  centre : List Position → CentroidOutcome → Row
+  -- The map call on the totals that it answers.
+  mapping : AffineMap → List Position → Outcome → Row
+  -- One cut of an outline: A2 and X6 of each piece.
+  cut : List Position → Cut → List (ℤ × ℤ) → Row
+  -- The call on a list of runs.
+  region : List Run → RegionOutcome → Row
+  -- The centre of the sums that it answers.
+  regionCentre : List Run → CentroidOutcome → Row
+
+abbrev areaAndX6 : Piece → ℤ × ℤ
+areaAndX6 p = (totalsOf p .a2, totalsOf p .x6)
+
+-- The definitions give the row's figures. A region's are the same whichever index stands for the one that document 01 leaves open.
+unfoldable pub holds : Row → Type 0
+holds (list ps answer) = listCall (numbers ps) ≡ answer
+holds (centre ps answer) = outlineCentroidCall (totalsOf ps) ≡ answer
+holds (mapping m ps answer) = mapCall m (totalsOf ps) ≡ answer
+holds (cut ps c answers) = map areaAndX6 (piecesOf ps (c ∷ [])) ≡ answers
+holds (region rs answer) = (index : ℕ) → regionCall rs index ≡ answer
+holds (regionCentre rs answer) = (index : ℕ) → regionCentroidCall (regionCall rs index .sums) ≡ answer
+
+-- ---- what is asked
+
+abbrev at : ℤ → ℤ → Position
+at x y = record { x = x; y = y }
+
+abbrev minus : ℕ → ℤ
+minus n = negℤ (pos n)
+
+abbrev pub rectangle : List Position
+rectangle = at (pos 2) (pos 0) ∷ at (pos 10) (pos 4) ∷ at (pos 8) (pos 8) ∷ at (pos 0) (pos 4) ∷ []
+
+abbrev pub figureEight : List Position
+figureEight = at (pos 0) (pos 0) ∷ at (pos 2) (pos 2) ∷ at (pos 2) (pos 0) ∷ at (pos 0) (pos 2) ∷ []
+
+abbrev pub unitSquare : List Position
+unitSquare = at (pos 0) (pos 0) ∷ at (pos 1) (pos 0) ∷ at (pos 1) (pos 1) ∷ at (pos 0) (pos 1) ∷ []
+
+abbrev pub squareAtMinusOne : List Position
+squareAtMinusOne = at (minus 1) (pos 0) ∷ at (pos 0) (pos 0) ∷ at (pos 0) (pos 1) ∷ at (minus 1) (pos 1) ∷ []
+
+abbrev pub onePointThrice : List Position
+onePointThrice = at (pos 5) (pos 7) ∷ at (pos 5) (pos 7) ∷ at (pos 5) (pos 7) ∷ []
+
+-- u = x + y + 1, v = y.
+abbrev pub shear : AffineMap
+shear = record { a = pos 1; b = pos 1; g = pos 0; h = pos 1; e = pos 1; f = pos 0 }
+
+-- The rectangle's cut from (2, 0) to (8, 8).
+abbrev pub diagonal : Cut
+diagonal = record { piece = 0; one = 0; other = 2 }
+
+abbrev pub shortRun : Run
+shortRun = record { row = 3; first = 2; length = 3 }
+
+-- ---- what is answered
+
+abbrev totals : ℤ → ℤ → ℤ → ℤ → ℤ → ℤ → Totals
+totals a2 x6 y6 xx12 xy24 yy12 = record { a2 = a2; x6 = x6; y6 = y6; xx12 = xx12; xy24 = xy24; yy12 = yy12 }
+
+abbrev centreAt : ℤ → ℤ → CentroidOutcome
+centreAt x y = record { number = 0; x = x; y = y }
+
+abbrev regionOf : CellSums → RegionOutcome
+regionOf s = record { number = 0; index = 0; sums = s }
+
+-- ---- the rows marked ✱, in document 01's order
+
+abbrev pub rows : List Row
+rows =
+    list rectangle (accepted (totals (pos 80) (pos 1200) (pos 960) (pos 14720) (pos 21120) (pos 8960)))
+    ∷ centre rectangle (centreAt (pos 5) (pos 4))
+    ∷ list figureEight (accepted (totals (pos 0) (minus 8) (pos 0) (minus 32) (minus 32) (pos 0)))
+    ∷ centre figureEight (refused 27)
+    ∷ list unitSquare (accepted (totals (pos 2) (pos 3) (pos 3) (pos 4) (pos 6) (pos 4)))
+    ∷ centre unitSquare (centreAt (pos 1) (pos 1))
+    ∷ centre squareAtMinusOne (centreAt (pos 0) (pos 1))
+    ∷ mapping shear unitSquare (accepted (totals (pos 2) (pos 12) (pos 3) (pos 50) (pos 26) (pos 4)))
+    ∷ cut rectangle diagonal ((pos 40, pos 800) ∷ (pos 40, pos 400) ∷ [])
+    ∷ list onePointThrice (accepted zeros)
+    ∷ centre onePointThrice (refused 27)
+    ∷ region (shortRun ∷ []) (regionOf (record { count = pos 3; x = pos 9; y = pos 9; xx = pos 29; xy = pos 27; yy = pos 27 }))
+    ∷ regionCentre (shortRun ∷ []) (centreAt (pos 3) (pos 3))
+    ∷ []
+
+-- ---- rows for the errors that a surveyor would not notice; what each error makes of its plot is in proofs/Errors
+
+-- The first point again at the end, where a closing edge left out does not show.
+abbrev pub repeatedFirst : List Position
+repeatedFirst = rectangle ++ at (pos 2) (pos 0) ∷ []
+
+-- A2 is odd.
+abbrev pub triangle : List Position
+triangle = at (pos 0) (pos 0) ∷ at (pos 1) (pos 0) ∷ at (pos 0) (pos 1) ∷ []
+
+-- The centre's x is -3/2.
+abbrev pub squareAtMinusTwo : List Position
+squareAtMinusTwo = at (minus 2) (pos 0) ∷ at (minus 1) (pos 0) ∷ at (minus 1) (pos 1) ∷ at (minus 2) (pos 1) ∷ []
+
+-- u = -x, v = y: d is -1.
+abbrev pub mirror : AffineMap
+mirror = record { a = minus 1; b = pos 0; g = pos 0; h = pos 1; e = pos 0; f = pos 0 }
+
+abbrev pub errorRows : List Row
+errorRows =
+    list repeatedFirst (accepted (totals (pos 80) (pos 1200) (pos 960) (pos 14720) (pos 21120) (pos 8960)))
+    ∷ list triangle (accepted (totals (pos 1) (pos 1) (pos 1) (pos 1) (pos 1) (pos 1)))
+    ∷ centre squareAtMinusTwo (centreAt (minus 1) (pos 1))
+    ∷ mapping mirror unitSquare (accepted (totals (minus 2) (pos 3) (minus 3) (minus 4) (pos 6) (minus 4)))
+    ∷ []

@@ -1,0 +1,157 @@
+// The plots of document 01's "Plots worked by hand" that carry no ✱, each through the proved functions.
+ghost use mathlib.Core.Path.{_≡_};
+ghost use mathlib.Core.List.{[], _∷_};
+ghost use Prim.Native.Nat.{_*_, _≤_};
+ghost use lib.ListN.{take};
+ghost use Rattle.outline.specs.ListCall.{listCall, points};
+ghost use Rattle.outline.specs.MapCall.{mapCall};
+ghost use Rattle.outline.specs.WalkCalls.{closed, newSheet, pointCall, endCall};
+ghost use Rattle.survey.specs.ListAnswer.{reading as listReading};
+ghost use Rattle.survey.specs.WalkAnswers.{pointReading, endReading};
+ghost use Rattle.affine.specs.Answer.{reading as mapReading};
+ghost use Rattle.cells.specs.RegionCall.{Answers};
+ghost use Rattle.worked_plots.specs.Plots.{roundSquare, doubling, afterPoints, square, walkedSquare, endAfter, triangle, lastColumn, handedIn};
+use crate::figures::list_totals;
+use affine::MapAnswer;
+use cells::RegionAnswer;
+use cells::Run;
+use outline::AffineMap;
+use outline::Position;
+use outline::Totals;
+use outline::Walk;
+use survey::EndReply;
+use survey::OutlineAnswer;
+use survey::PointReply;
+
+// The corners of a square, x and y in turn, anticlockwise.
+const SQUARE: [i32; 8] = [2000, -2000, 2000, 2000, -2000, 2000, -2000, -2000];
+
+const DOUBLING: AffineMap = AffineMap {
+    a: 2,
+    b: 0,
+    g: 0,
+    h: 2,
+    e: 0,
+    f: 0,
+};
+
+const ORIGIN: Position = Position { x: 0, y: 0 };
+
+// A triangle with a corner at (x, 0).
+pub(crate) fn triangle_totals(x: i32) -> OutlineAnswer
+    ensures { λ r. ⌜ listReading r ≡ listCall (triangle x) ⌝ }
+{
+    let numbers = [x, 0, 0, 2000, -2000, 0];
+    survey::outline_totals(&numbers)
+}
+
+// The numbers of 256 rounds of the square.
+fn square_numbers() -> [i32; 2048]
+    ensures { λ r. ⌜ r ≡ roundSquare 2048 ⌝ }
+{
+    let mut numbers = [0; 2048];
+    let mut i = 0;
+    while i < 2048 {
+        numbers[i] = SQUARE[i % 8];
+        i += 1;
+    }
+    numbers
+}
+
+// As many rounds of the square, doubled by a map.
+pub(crate) fn doubled_square(rounds: usize) -> MapAnswer
+    requires { ⌜ rounds ≤ 256 ⌝ }
+    ensures { λ r. ⌜ mapReading r ≡ mapCall doubling (listCall (take (rounds * 8) (roundSquare 2048)) .totals) ⌝ }
+{
+    let numbers = square_numbers();
+    let n = rounds * 8;
+    let totals = list_totals(survey::outline_totals(&numbers[..n]));
+    affine::map_totals(DOUBLING, totals)
+}
+
+// One round of the square.
+fn walk_round(w: Walk) -> Walk
+    ensures { λ r. ⌜ r ≡ afterPoints w (points square) ⌝ }
+{
+    let one = survey::point(w, SQUARE[0], SQUARE[1]);
+    let two = survey::point(one.walk, SQUARE[2], SQUARE[3]);
+    let three = survey::point(two.walk, SQUARE[4], SQUARE[5]);
+    let four = survey::point(three.walk, SQUARE[6], SQUARE[7]);
+    four.walk
+}
+
+// A walk of 1,024 points: 256 rounds of the square.
+fn walk_square(w: Walk) -> Walk
+    ensures { λ r. ⌜ r ≡ walkedSquare w ⌝ }
+{
+    let begun = begin_abandon::begin(w);
+    let mut walk = begun.walk;
+    let mut rounds: u32 = 0;
+    while rounds < 256 {
+        walk = walk_round(walk);
+        rounds += 1;
+    }
+    walk
+}
+
+// Point 1,025.
+pub(crate) fn point_1025(x: i32, y: i32) -> PointReply
+    ensures { λ r. ⌜ pointReading r ≡ pointCall (walkedSquare closed) (record { x = x; y = y }) ⌝ }
+{
+    let w = walk_square(begin_abandon::new_walk());
+    survey::point(w, x, y)
+}
+
+// An outline of 256 rounds on a sheet that has `earlier` such outlines.
+pub(crate) fn sheet_of_squares(earlier: u32) -> EndReply
+    ensures { λ r. ⌜ endReading r ≡ endAfter earlier ⌝ }
+{
+    let mut reply = survey::end(
+        walk_square(begin_abandon::new_walk()),
+        begin_abandon::new_sheet(),
+    );
+    let mut done = 0;
+    while done < earlier {
+        let w = walk_square(reply.walk);
+        reply = survey::end(w, reply.sheet);
+        done += 1;
+    }
+    reply
+}
+
+// A run of row 0 from column 1,023 on.
+pub(crate) fn last_column(length: u32) -> RegionAnswer
+    ensures { λ r. ⌜ Answers (lastColumn length ∷ []) r ⌝ }
+{
+    let run = Run {
+        row: 0,
+        first: 1023,
+        length,
+    };
+    let runs = [run; 4097];
+    region_array::region_sums_of(runs, 1)
+}
+
+// An open walk of 3 points with this A2.
+pub(crate) fn handed_in(a2: i64) -> EndReply
+    ensures { λ r. ⌜ endReading r ≡ endCall (handedIn a2) newSheet ⌝ }
+{
+    let totals = Totals {
+        a2,
+        x6: 0,
+        y6: 0,
+        xx12: 0,
+        xy24: 0,
+        yy12: 0,
+    };
+    let first = ORIGIN;
+    let last = ORIGIN;
+    let walk = Walk {
+        is_open: true,
+        count: 3,
+        first,
+        last,
+        totals,
+    };
+    survey::end(walk, begin_abandon::new_sheet())
+}

@@ -1,0 +1,43 @@
+// A row on standard output: its label, then fields, each after a tab.
+use centroid::CellSums;
+use outline::Totals;
+
+pub(crate) fn show_label(label: &[u8]) {
+    io::write_all(1, label);
+}
+
+pub(crate) fn show_natural(n: u64) {
+    io::write_all(1, b"\t");
+    io::print_decimal(1, n);
+}
+
+fn show_integer(n: i64) {
+    if n < 0 {
+        io::write_all(1, b"\t-");
+        io::print_decimal(1, printing::magnitude(n));
+        return;
+    }
+    show_natural(printing::magnitude(n));
+}
+
+pub(crate) fn show_totals(t: Totals) {
+    show_integer(t.a2);
+    show_integer(t.x6);
+    show_integer(t.y6);
+    show_integer(t.xx12);
+    show_integer(t.xy24);
+    show_integer(t.yy12);
+}
+
+pub(crate) fn show_sums(s: CellSums) {
+    show_integer(s.count);
+    show_integer(s.x);
+    show_integer(s.y);
+    show_integer(s.xx);
+    show_integer(s.xy);
+    show_integer(s.yy);
+}
+
+pub(crate) fn end_row() {
+    io::write_all(1, b"\n");
+}
