@@ -1,0 +1,75 @@
+/*
+ * The proved calls on outlines and on regions, for C and C++ on x86-64 Linux. Link target/staticlib/libexports.a, which `rt staticlib exports` writes.
+ *
+ * Each call answers a number: 0 where it is accepted, else that of document 01's refusal, named at each call, the first that applies in the order given. It writes its values to the front of
+ * `out`, zeros with every refusal but for the index of a run, and nothing behind them. Where `out_length` is less than the number of its values, it writes nothing and answers
+ * MAVRIHKEL_SHORT_BUFFER. That much is proved of the library, for every list, number and buffer; that these declarations fit it is tested (check.c).
+ *
+ * What a caller owes: a pointer is aligned and is not NULL, also where the length is 0, and that many entries lie there; the entries of `out` may be written and overlap no list that is
+ * handed in. A call keeps no pointer, and no state between calls, so threads may call at once. The list call takes 8 KB of stack.
+ *
+ * Lengths are in decimetres, x east and y north. The six totals, in this order: A2 (2 x area), X6 and Y6 (6 x the integral of x and of y), XX12 (12 x that of x squared), XY24 (24 x that of x y),
+ * YY12 (12 x that of y squared); positive where the outline is walked anticlockwise.
+ */
+#ifndef MAVRIHKEL_H
+#define MAVRIHKEL_H
+
+#include <stddef.h>
+#include <stdint.h>
+
+#ifdef __cplusplus
+extern "C" {
+#endif
+
+#define MAVRIHKEL_TOTALS 6
+#define MAVRIHKEL_CENTRE 2
+#define MAVRIHKEL_REGION 7
+#define MAVRIHKEL_SHORT_BUFFER 100
+
+/*
+ * The six totals of an outline: `points` has x and y in turn, `points_length` counts numbers, two to a point. The last point is joined to the first.
+ *   2  the length is odd, or there are fewer than 3 points, or over 1,024
+ *   1  a coordinate is below -2,000 or above 2,000
+ */
+uint32_t mavrihkel_outline_totals(const int32_t *points, size_t points_length, int64_t *out, size_t out_length);
+
+/*
+ * The six totals of the outline moved by u = a x + b y + e, v = g x + h y + f, from its six totals.
+ *   3  a, b, g or h is greater than 2 in size, or e or f than 2,000
+ *   4  a total is greater in size than an outline of 1,024 points can have: A2 8,192,000,000; X6, Y6 32,768,000,000,000; XX12, YY12 98,304,000,000,000,000; XY24 196,608,000,000,000,000
+ *   5  a mapped total is greater than 10^18 in size
+ */
+uint32_t mavrihkel_map_totals(int32_t a, int32_t b, int32_t g, int32_t h, int32_t e, int32_t f,
+                              int64_t a2, int64_t x6, int64_t y6, int64_t xx12, int64_t xy24, int64_t yy12,
+                              int64_t *out, size_t out_length);
+
+/*
+ * The centre of an outline or of a sheet by its six totals: two values, x and y, each the exact quotient in decimetres rounded to a whole number, halves up (towards east and north).
+ *   11  a total is greater than 10^18 in size
+ *   27  A2 is 0
+ */
+uint32_t mavrihkel_outline_centroid(int64_t a2, int64_t x6, int64_t y6, int64_t xx12, int64_t xy24, int64_t yy12,
+                                    int64_t *out, size_t out_length);
+
+/* As many cells of a row as `length`, from the column `first` on. Rows and columns are 0 to 1,023. */
+struct mavrihkel_run {
+    uint32_t row;
+    uint32_t first;
+    uint32_t length;
+};
+
+/*
+ * The sums of the region that runs make up; `runs_length` counts runs, and none is legal. Each run lies after the one before: on a higher row, or on the same row with its first column not below
+ * the earlier first column plus length. Seven values: the number of cells; the sums of x, y, x squared, x y and y squared, where x is a cell's column and y its row; and an index: with 6 and
+ * 7 that of a run that breaks the rule, counted from 0; else 0.
+ *   8  there are more than 4,096 runs
+ *   6  a run has a row over 1,023, has no cell, or goes past column 1,023
+ *   7  a run has a lower row than the run before it, or has the same row and begins before that run ends
+ */
+uint32_t mavrihkel_region_sums(const struct mavrihkel_run *runs, size_t runs_length, int64_t *out, size_t out_length);
+
+#ifdef __cplusplus
+}
+#endif
+
+#endif

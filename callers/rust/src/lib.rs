@@ -1,0 +1,276 @@
+//! Safe functions over the proved static library `exports`. The numbers of refusals, the units and the order of the totals are document 01's.
+//!
+//! The proofs end at the static library: that the declarations in `linked` fit it is tested (`tests/compare`) and not proved.
+
+/// The six totals of an outline, in decimetres to the power 2, 3 and 4: multiples of the area, of the first and of the second moments.
+#[derive(Clone, Copy, Debug, PartialEq, Eq)]
+pub struct Totals {
+    pub a2: i64,
+    pub x6: i64,
+    pub y6: i64,
+    pub xx12: i64,
+    pub xy24: i64,
+    pub yy12: i64,
+}
+
+/// (x, y) goes to (a x + b y + e, g x + h y + f).
+#[derive(Clone, Copy, Debug, PartialEq, Eq)]
+pub struct AffineMap {
+    pub a: i32,
+    pub b: i32,
+    pub g: i32,
+    pub h: i32,
+    pub e: i32,
+    pub f: i32,
+}
+
+/// A centre, in decimetres east and north.
+#[derive(Clone, Copy, Debug, PartialEq, Eq)]
+pub struct Centre {
+    pub x: i64,
+    pub y: i64,
+}
+
+/// As many cells of a row as `length`, from the column `first` on, all counted from 0. Laid out as the library reads it.
+#[derive(Clone, Copy, Debug, PartialEq, Eq)]
+#[repr(C)]
+pub struct Run {
+    pub row: u32,
+    pub first: u32,
+    pub length: u32,
+}
+
+/// The six sums of a region over its cells: of 1, x, y, x², xy and y², where x is a cell's column and y its row.
+#[derive(Clone, Copy, Debug, PartialEq, Eq)]
+pub struct CellSums {
+    pub count: i64,
+    pub x: i64,
+    pub y: i64,
+    pub xx: i64,
+    pub xy: i64,
+    pub yy: i64,
+}
+
+/// Why a list of runs has no sums: refusal 6 or 7 with the index, from 0, of a run that breaks the rule, or 8.
+#[derive(Clone, Copy, Debug, PartialEq, Eq)]
+pub enum RegionRefusal {
+    BadRun(usize),
+    OutOfOrder(usize),
+    TooManyRuns,
+}
+
+impl RegionRefusal {
+    pub fn number(self) -> u32 {
+        match self {
+            RegionRefusal::BadRun(_) => 6,
+            RegionRefusal::OutOfOrder(_) => 7,
+            RegionRefusal::TooManyRuns => 8,
+        }
+    }
+}
+
+/// Why a call on an outline or its totals is refused; as a number, that of document 01.
+#[derive(Clone, Copy, Debug, PartialEq, Eq)]
+#[repr(u32)]
+pub enum Refusal {
+    CoordinateOutsideLimits = 1,
+    WrongLength = 2,
+    MapOutsideLimits = 3,
+    TotalsOutsideBounds = 4,
+    MappedOutsideLimits = 5,
+    CentreOutsideLimits = 11,
+    NoArea = 27,
+}
+
+impl Refusal {
+    pub fn number(self) -> u32 {
+        self as u32
+    }
+
+    /// `None` for 0, an accepted call.
+    fn of(number: u32) -> Option<Refusal> {
+        match number {
+            0 => None,
+            1 => Some(Refusal::CoordinateOutsideLimits),
+            2 => Some(Refusal::WrongLength),
+            3 => Some(Refusal::MapOutsideLimits),
+            4 => Some(Refusal::TotalsOutsideBounds),
+            5 => Some(Refusal::MappedOutsideLimits),
+            11 => Some(Refusal::CentreOutsideLimits),
+            27 => Some(Refusal::NoArea),
+            _ => other_version(number),
+        }
+    }
+}
+
+fn other_version(number: u32) -> ! {
+    unreachable!("a static library of another version answered {number}")
+}
+
+/// The answer of a call whose buffer is too short. No refusal of document 01 has this number.
+pub const SHORT_BUFFER: u32 = 100;
+
+mod linked {
+    use super::Run;
+
+    extern "C" {
+        pub fn mavrihkel_outline_totals(
+            points: *const i32,
+            points_length: usize,
+            out: *mut i64,
+            out_length: usize,
+        ) -> u32;
+
+        pub fn mavrihkel_map_totals(
+            a: i32,
+            b: i32,
+            g: i32,
+            h: i32,
+            e: i32,
+            f: i32,
+            a2: i64,
+            x6: i64,
+            y6: i64,
+            xx12: i64,
+            xy24: i64,
+            yy12: i64,
+            out: *mut i64,
+            out_length: usize,
+        ) -> u32;
+
+        pub fn mavrihkel_outline_centroid(
+            a2: i64,
+            x6: i64,
+            y6: i64,
+            xx12: i64,
+            xy24: i64,
+            yy12: i64,
+            out: *mut i64,
+            out_length: usize,
+        ) -> u32;
+
+        pub fn mavrihkel_region_sums(
+            runs: *const Run,
+            runs_length: usize,
+            out: *mut i64,
+            out_length: usize,
+        ) -> u32;
+    }
+}
+
+// ---- the library's own form: a number, and values at the front of the caller's buffer
+
+/// Writes the six totals to the first six entries, zeros with a refusal. A shorter buffer stays as it was, and the answer is `SHORT_BUFFER`.
+pub fn outline_totals_into(points: &[i32], out: &mut [i64]) -> u32 {
+    // Sound: the library asks nothing of its caller but that each pointer and length are those of a slice.
+    unsafe {
+        linked::mavrihkel_outline_totals(points.as_ptr(), points.len(), out.as_mut_ptr(), out.len())
+    }
+}
+
+/// Writes the six mapped totals, in the same way.
+pub fn map_totals_into(m: AffineMap, t: Totals, out: &mut [i64]) -> u32 {
+    // Sound, as above.
+    unsafe {
+        linked::mavrihkel_map_totals(
+            m.a,
+            m.b,
+            m.g,
+            m.h,
+            m.e,
+            m.f,
+            t.a2,
+            t.x6,
+            t.y6,
+            t.xx12,
+            t.xy24,
+            t.yy12,
+            out.as_mut_ptr(),
+            out.len(),
+        )
+    }
+}
+
+/// Writes the centre's x and y to the first two entries, in the same way.
+pub fn outline_centroid_into(t: Totals, out: &mut [i64]) -> u32 {
+    // Sound, as above.
+    unsafe {
+        linked::mavrihkel_outline_centroid(
+            t.a2,
+            t.x6,
+            t.y6,
+            t.xx12,
+            t.xy24,
+            t.yy12,
+            out.as_mut_ptr(),
+            out.len(),
+        )
+    }
+}
+
+/// Writes the six sums to the first six entries and the index with 6 and 7 to the seventh, 0 with any other answer, in the same way.
+pub fn region_sums_into(runs: &[Run], out: &mut [i64]) -> u32 {
+    // Sound, as above.
+    unsafe { linked::mavrihkel_region_sums(runs.as_ptr(), runs.len(), out.as_mut_ptr(), out.len()) }
+}
+
+// ---- the same as results
+
+fn totals_or_refusal(number: u32, v: [i64; 6]) -> Result<Totals, Refusal> {
+    match Refusal::of(number) {
+        Some(refusal) => Err(refusal),
+        None => Ok(Totals {
+            a2: v[0],
+            x6: v[1],
+            y6: v[2],
+            xx12: v[3],
+            xy24: v[4],
+            yy12: v[5],
+        }),
+    }
+}
+
+/// The six totals of an outline: x and y in turn, in decimetres.
+pub fn outline_totals(points: &[i32]) -> Result<Totals, Refusal> {
+    let mut v = [0; 6];
+    let number = outline_totals_into(points, &mut v);
+    totals_or_refusal(number, v)
+}
+
+/// The totals of the mapped outline, from those of the outline.
+pub fn map_totals(m: AffineMap, t: Totals) -> Result<Totals, Refusal> {
+    let mut v = [0; 6];
+    let number = map_totals_into(m, t, &mut v);
+    totals_or_refusal(number, v)
+}
+
+/// The centre of an outline or of a sheet, by its totals: whole decimetres, halves rounded up.
+pub fn outline_centroid(t: Totals) -> Result<Centre, Refusal> {
+    let mut v = [0; 2];
+    let number = outline_centroid_into(t, &mut v);
+    match Refusal::of(number) {
+        Some(refusal) => Err(refusal),
+        None => Ok(Centre { x: v[0], y: v[1] }),
+    }
+}
+
+/// The six sums of the region that the runs make up.
+pub fn region_sums(runs: &[Run]) -> Result<CellSums, RegionRefusal> {
+    let mut v = [0; 7];
+    let number = region_sums_into(runs, &mut v);
+    let [count, x, y, xx, xy, yy, index] = v;
+    match number {
+        0 => Ok(CellSums {
+            count,
+            x,
+            y,
+            xx,
+            xy,
+            yy,
+        }),
+        6 => Err(RegionRefusal::BadRun(index as usize)),
+        7 => Err(RegionRefusal::OutOfOrder(index as usize)),
+        8 => Err(RegionRefusal::TooManyRuns),
+        _ => other_version(number),
+    }
+}

@@ -1,0 +1,109 @@
+//! Seeded inputs: the same in every run.
+
+/// The generator splitmix64.
+pub struct Random(u64);
+
+impl Random {
+    pub fn seeded(seed: u64) -> Random {
+        Random(seed)
+    }
+
+    pub fn next(&mut self) -> u64 {
+        self.0 = self.0.wrapping_add(0x9e37_79b9_7f4a_7c15);
+        let mut z = self.0;
+        z = (z ^ (z >> 30)).wrapping_mul(0xbf58_476d_1ce4_e5b9);
+        z = (z ^ (z >> 27)).wrapping_mul(0x94d0_49bb_1331_11eb);
+        z ^ (z >> 31)
+    }
+
+    /// From `low` to `high`, both included.
+    pub fn between(&mut self, low: i64, high: i64) -> i64 {
+        let span = (i128::from(high) - i128::from(low) + 1) as u128;
+        (i128::from(low) + (u128::from(self.next()) % span) as i128) as i64
+    }
+
+    pub fn one_of<T: Copy>(&mut self, choices: &[T]) -> T {
+        choices[(self.next() % choices.len() as u64) as usize]
+    }
+
+    pub fn one_in(&mut self, n: u64) -> bool {
+        self.next() % n == 0
+    }
+}
+
+/// Numbers of a list of `length`, all within the limits: spread, close together, or at the corners.
+pub fn coordinates(random: &mut Random, length: usize) -> Vec<i32> {
+    let size = random.one_of(&[2000, 2000, 3]);
+    let corners = random.one_in(3);
+    (0..length)
+        .map(|_| {
+            if corners {
+                random.one_of(&[-size, size])
+            } else {
+                random.between(-size, size)
+            }
+        })
+        .map(|z| z as i32)
+        .collect()
+}
+
+/// A list with one to three numbers past the limits.
+pub fn damaged(random: &mut Random, length: usize) -> Vec<i32> {
+    let mut list = coordinates(random, length);
+    for _ in 0..random.between(1, 3) {
+        if length > 0 {
+            let at = random.between(0, length as i64 - 1) as usize;
+            let any = random.next() as i32;
+            list[at] = random.one_of(&[2001, -2001, i32::MAX, i32::MIN, i32::MIN + 1, any]);
+        }
+    }
+    list
+}
+
+/// Runs that make up a region: in rows at random, in every row in turn, or in one row. `count` is at most 4,097, which is one too many.
+pub fn region(random: &mut Random, count: usize) -> Vec<[u32; 3]> {
+    let spread = random.one_of(&[1, 20, 1024]);
+    let mut rows: Vec<i64> = match random.between(0, 2) {
+        0 if count <= 1024 => vec![random.between(0, 1023); count],
+        1 => (0..count).map(|i| (i % 1024) as i64).collect(),
+        _ => (0..count).map(|_| random.between(0, 1023)).collect(),
+    };
+    rows.sort_unstable();
+    let mut runs = Vec::with_capacity(count);
+    let mut free = 0;
+    for (i, &row) in rows.iter().enumerate() {
+        if i == 0 || rows[i - 1] != row {
+            free = 0;
+        }
+        let to_come = rows[i + 1..].iter().take_while(|&&r| r == row).count() as i64;
+        let end = 1024 - to_come;
+        let first = random.between(free, (free + spread - 1).min(end - 1));
+        let length = random.between(1, spread.min(end - first));
+        runs.push([row, first, length].map(|z| z as u32));
+        free = first + length;
+    }
+    runs
+}
+
+/// A region in which one to three runs have a number past its limits, or overlap or change places with the next.
+pub fn damaged_region(random: &mut Random, count: usize) -> Vec<[u32; 3]> {
+    let mut runs = region(random, count);
+    if count < 2 {
+        return runs;
+    }
+    let order_alone = random.one_in(2);
+    for _ in 0..random.between(1, 3) {
+        let i = random.between(0, count as i64 - 2) as usize;
+        let any = random.next() as u32;
+        match random.between(0, 5) {
+            0 => runs.swap(i, i + 1),
+            1 => runs[i + 1] = runs[i],
+            _ if order_alone => runs.swap(i, i + 1),
+            2 => runs[i][0] = random.one_of(&[1023, 1024, u32::MAX, any]),
+            3 => runs[i][1] = random.one_of(&[1023, 1024, u32::MAX, any]),
+            4 => runs[i][2] = random.one_of(&[0, 1025, u32::MAX, any]),
+            _ => runs[i][2] = 1025 - runs[i][1].min(1024),
+        }
+    }
+    runs
+}

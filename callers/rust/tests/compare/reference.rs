@@ -1,0 +1,156 @@
+//! Document 01 in 128-bit integers, written from the paper: each outcome is a number, 0 if accepted, and its values, zeros with a refusal.
+
+pub type Outcome<const N: usize> = (u32, [i128; N]);
+
+fn refused<const N: usize>(number: u32) -> Outcome<N> {
+    (number, [0; N])
+}
+
+/// The outline bounds, by size.
+pub const BOUNDS: [i128; 6] = [
+    8_192_000_000,
+    32_768_000_000_000,
+    32_768_000_000_000,
+    98_304_000_000_000_000,
+    196_608_000_000_000_000,
+    98_304_000_000_000_000,
+];
+
+/// The limit of a mapped total, and of a total that a centre is wanted of.
+pub const LIMIT: i128 = 1_000_000_000_000_000_000;
+
+/// The edge terms of (x, y) to (p, q), in the order of the table.
+fn edge((x, y): (i128, i128), (p, q): (i128, i128)) -> [i128; 6] {
+    let c = x * q - p * y;
+    [
+        c,
+        (x + p) * c,
+        (y + q) * c,
+        (x * x + x * p + p * p) * c,
+        (2 * x * y + x * q + p * y + 2 * p * q) * c,
+        (y * y + y * q + q * q) * c,
+    ]
+}
+
+pub fn list_call(numbers: &[i32]) -> Outcome<6> {
+    let points: Vec<(i128, i128)> = numbers
+        .chunks_exact(2)
+        .map(|p| (i128::from(p[0]), i128::from(p[1])))
+        .collect();
+    if numbers.len() % 2 != 0 || !(3..=1024).contains(&points.len()) {
+        return refused(2);
+    }
+    let limits = -2000..=2000;
+    if !points
+        .iter()
+        .all(|(x, y)| limits.contains(x) && limits.contains(y))
+    {
+        return refused(1);
+    }
+    let mut totals = [0; 6];
+    for (k, &start) in points.iter().enumerate() {
+        let end = points[(k + 1) % points.len()];
+        for (total, term) in totals.iter_mut().zip(edge(start, end)) {
+            *total += term;
+        }
+    }
+    (0, totals)
+}
+
+/// `map` is a, b, g, h, e, f.
+pub fn map_call(map: [i128; 6], totals: [i128; 6]) -> Outcome<6> {
+    let [a, b, g, h, e, f] = map;
+    if [a, b, g, h].iter().any(|k| k.abs() > 2) || [e, f].iter().any(|k| k.abs() > 2000) {
+        return refused(3);
+    }
+    if totals.iter().zip(BOUNDS).any(|(t, bound)| t.abs() > bound) {
+        return refused(4);
+    }
+    let [a2, x6, y6, xx12, xy24, yy12] = totals;
+    let d = a * h - b * g;
+    let first = |a: i128, b: i128, e: i128| d * (a * x6 + b * y6 + 3 * e * a2);
+    let second = |a: i128, b: i128, e: i128| {
+        d * (a * a * xx12
+            + b * b * yy12
+            + a * b * xy24
+            + 4 * a * e * x6
+            + 4 * b * e * y6
+            + 6 * e * e * a2)
+    };
+    let mixed = d
+        * (2 * a * g * xx12
+            + 2 * b * h * yy12
+            + (a * h + b * g) * xy24
+            + 4 * (g * e + a * f) * x6
+            + 4 * (h * e + b * f) * y6
+            + 12 * e * f * a2);
+    let mapped = [
+        d * a2,
+        first(a, b, e),
+        first(g, h, f),
+        second(a, b, e),
+        mixed,
+        second(g, h, f),
+    ];
+    if mapped.iter().any(|t| t.abs() > LIMIT) {
+        return refused(5);
+    }
+    (0, mapped)
+}
+
+/// The whole number k with 2kD − D ≤ 2N < 2kD + D, for D above 0.
+fn centre(n: i128, d: i128) -> i128 {
+    let k = (2 * n + d).div_euclid(2 * d);
+    assert!(2 * k * d - d <= 2 * n && 2 * n < 2 * k * d + d);
+    k
+}
+
+pub fn centre_call(totals: [i128; 6]) -> Outcome<2> {
+    if totals.iter().any(|t| t.abs() > LIMIT) {
+        return refused(11);
+    }
+    let [a2, x6, y6, ..] = totals;
+    if a2 == 0 {
+        return refused(27);
+    }
+    let sign = a2.signum();
+    (
+        0,
+        [
+            centre(sign * x6, sign * 3 * a2),
+            centre(sign * y6, sign * 3 * a2),
+        ],
+    )
+}
+
+/// A run is row, first column, length. The six sums go cell by cell. The last part has every index that may be given: with 6 and 7 that of any run that breaks it.
+pub fn region_call(runs: &[[u32; 3]]) -> (u32, [i128; 6], Vec<usize>) {
+    if runs.len() > 4096 {
+        return (8, [0; 6], vec![0]);
+    }
+    let bad = |&[row, first, length]: &[u32; 3]| {
+        row > 1023 || length == 0 || u64::from(first) + u64::from(length) > 1024
+    };
+    let six: Vec<usize> = (0..runs.len()).filter(|&i| bad(&runs[i])).collect();
+    if !six.is_empty() {
+        return (6, [0; 6], six);
+    }
+    let after =
+        |[p, f, l]: [u32; 3], [row, first, _]: [u32; 3]| row > p || row == p && first >= f + l;
+    let seven: Vec<usize> = (1..runs.len())
+        .filter(|&i| !after(runs[i - 1], runs[i]))
+        .collect();
+    if !seven.is_empty() {
+        return (7, [0; 6], seven);
+    }
+    let mut sums = [0; 6];
+    for &[row, first, length] in runs {
+        for column in first..first + length {
+            let (x, y) = (i128::from(column), i128::from(row));
+            for (sum, term) in sums.iter_mut().zip([1, x, y, x * x, x * y, y * y]) {
+                *sum += term;
+            }
+        }
+    }
+    (0, sums, vec![0])
+}

@@ -1,0 +1,105 @@
+use crate::inputs::{damaged_region, region, Random};
+use crate::{narrow, reference, runs_of, Met};
+use mavrihkel::region_sums_into;
+
+fn compare(runs: &[[u32; 3]], met: &mut Met) {
+    let (number, sums, indices) = reference::region_call(runs);
+    let mut out = [-1; 7];
+    let named = format!("{} runs, {:?} ..", runs.len(), &runs[..runs.len().min(4)]);
+    assert_eq!(
+        region_sums_into(&runs_of(runs), &mut out),
+        number,
+        "{named}"
+    );
+    assert_eq!(out[..6], narrow(sums), "{named}");
+    let index = usize::try_from(out[6]).expect("an index is not negative");
+    assert!(indices.contains(&index), "{named}: {index}");
+    met.count(number);
+}
+
+#[test]
+fn every_short_length() {
+    let mut random = Random::seeded(8);
+    let mut met = Met::default();
+    for count in 0..=60 {
+        for _ in 0..20 {
+            compare(&region(&mut random, count), &mut met);
+            compare(&damaged_region(&mut random, count), &mut met);
+        }
+    }
+    met.each_of(&[0, 6, 7], 200);
+}
+
+#[test]
+fn lists_of_every_size() {
+    let mut random = Random::seeded(9);
+    let mut met = Met::default();
+    for count in (100..=4000).step_by(100) {
+        compare(&region(&mut random, count), &mut met);
+        compare(&damaged_region(&mut random, count), &mut met);
+    }
+    met.each_of(&[0, 6, 7], 5);
+}
+
+/// 4,096 runs are allowed, 4,097 are not, whatever else is wrong with them.
+#[test]
+fn lists_at_the_limit() {
+    let mut random = Random::seeded(10);
+    let mut met = Met::default();
+    for _ in 0..20 {
+        for count in [4095, 4096, 4097] {
+            compare(&region(&mut random, count), &mut met);
+            compare(&damaged_region(&mut random, count), &mut met);
+        }
+    }
+    met.each_of(&[0, 6, 7, 8], 5);
+}
+
+#[test]
+fn each_number_of_one_run_at_its_limits() {
+    let mut met = Met::default();
+    for row in [0, 1, 1023, 1024, u32::MAX] {
+        for first in [0, 1, 1022, 1023, 1024, 1025, u32::MAX] {
+            for length in [0, 1, 2, 1023, 1024, 1025, u32::MAX] {
+                compare(&[[row, first, length]], &mut met);
+            }
+        }
+    }
+    met.each_of(&[0, 6], 20);
+}
+
+/// Every pair of runs of a small grid: apart, touching, overlapping, equal, and out of order.
+#[test]
+fn every_small_pair() {
+    let mut met = Met::default();
+    let small = |n: u32| [n / 12, n % 4, n / 4 % 3 + 1];
+    for n in 0..24 {
+        for m in 0..24 {
+            compare(&[small(n), small(m)], &mut met);
+        }
+    }
+    met.each_of(&[0, 7], 200);
+}
+
+/// A run that breaks 6 decides wherever it stands, before or behind one that breaks 7.
+#[test]
+fn six_before_seven() {
+    let mut met = Met::default();
+    let (sound, early, bad) = ([5, 10, 3], [5, 12, 1], [1024, 0, 1]);
+    compare(&[sound, early, bad], &mut met);
+    compare(&[bad, sound, early], &mut met);
+    compare(&[sound, bad, early], &mut met);
+    compare(&[sound, early, sound], &mut met);
+    met.each_of(&[6, 7], 1);
+}
+
+/// The largest sums: the whole grid, in full rows and in quarters.
+#[test]
+fn the_whole_grid() {
+    let mut met = Met::default();
+    let rows: Vec<[u32; 3]> = (0..1024).map(|row| [row, 0, 1024]).collect();
+    let quarters: Vec<[u32; 3]> = (0..4096).map(|i| [i / 4, i % 4 * 256, 256]).collect();
+    compare(&rows, &mut met);
+    compare(&quarters, &mut met);
+    met.each_of(&[0], 2);
+}

@@ -1,0 +1,98 @@
+//! Document 01's plots worked by hand, through the functions that give results.
+use crate::{affine_map, runs_of, totals};
+use mavrihkel::{
+    map_totals, outline_centroid, outline_totals, region_sums, CellSums, Centre, Refusal,
+    RegionRefusal,
+};
+
+#[test]
+fn plots() {
+    let rectangle = totals([80, 1200, 960, 14720, 21120, 8960]);
+    assert_eq!(outline_totals(&[2, 0, 10, 4, 8, 8, 0, 4]), Ok(rectangle));
+    assert_eq!(outline_centroid(rectangle), Ok(Centre { x: 5, y: 4 }));
+
+    let figure_eight = totals([0, -8, 0, -32, -32, 0]);
+    assert_eq!(outline_totals(&[0, 0, 2, 2, 2, 0, 0, 2]), Ok(figure_eight));
+    assert_eq!(outline_centroid(figure_eight), Err(Refusal::NoArea));
+
+    let unit_square = totals([2, 3, 3, 4, 6, 4]);
+    assert_eq!(outline_totals(&[0, 0, 1, 0, 1, 1, 0, 1]), Ok(unit_square));
+    assert_eq!(outline_centroid(unit_square), Ok(Centre { x: 1, y: 1 }));
+    let mapped = totals([2, 12, 3, 50, 26, 4]);
+    assert_eq!(
+        map_totals(affine_map([1, 1, 0, 1, 1, 0]), unit_square),
+        Ok(mapped)
+    );
+
+    let west = outline_totals(&[-1, 0, 0, 0, 0, 1, -1, 1]).expect("accepted");
+    assert_eq!(outline_centroid(west), Ok(Centre { x: 0, y: 1 }));
+}
+
+#[test]
+fn region() {
+    let sums = CellSums {
+        count: 3,
+        x: 9,
+        y: 9,
+        xx: 29,
+        xy: 27,
+        yy: 27,
+    };
+    assert_eq!(region_sums(&runs_of(&[[3, 2, 3]])), Ok(sums));
+}
+
+#[test]
+fn region_refusals() {
+    let row_1024 = region_sums(&runs_of(&[[3, 2, 3], [1024, 0, 1]]));
+    assert_eq!(row_1024, Err(RegionRefusal::BadRun(1)));
+    let overlap = region_sums(&runs_of(&[[3, 2, 3], [4, 0, 1], [4, 0, 1]]));
+    assert_eq!(overlap, Err(RegionRefusal::OutOfOrder(2)));
+    let many = region_sums(&runs_of(&[[3, 2, 3]; 4097]));
+    assert_eq!(many, Err(RegionRefusal::TooManyRuns));
+    let numbers = [row_1024, overlap, many].map(|r| r.expect_err("refused").number());
+    assert_eq!(numbers, [6, 7, 8]);
+}
+
+#[test]
+fn refusals() {
+    let square = [-2000, -2000, 2000, -2000, 2000, 2000, -2000, 2000];
+    let doubled = affine_map([2, 0, 0, 2, 0, 0]);
+    let of_rounds = |n| outline_totals(&square.repeat(n)).expect("accepted");
+    assert!(map_totals(doubled, of_rounds(244)).is_ok());
+    assert_eq!(
+        map_totals(doubled, of_rounds(245)),
+        Err(Refusal::MappedOutsideLimits)
+    );
+
+    assert_eq!(
+        outline_totals(&[0, 0, 2001, 0, 0, 1]),
+        Err(Refusal::CoordinateOutsideLimits)
+    );
+    assert_eq!(outline_totals(&[0, 0, 1, 0, 0]), Err(Refusal::WrongLength));
+    assert_eq!(
+        map_totals(affine_map([3, 0, 0, 1, 0, 0]), of_rounds(1)),
+        Err(Refusal::MapOutsideLimits)
+    );
+    assert_eq!(
+        map_totals(doubled, totals([i64::MIN; 6])),
+        Err(Refusal::TotalsOutsideBounds)
+    );
+    assert_eq!(
+        outline_centroid(totals([i64::MIN; 6])),
+        Err(Refusal::CentreOutsideLimits)
+    );
+}
+
+#[test]
+fn refusals_have_their_numbers() {
+    let all = [
+        Refusal::CoordinateOutsideLimits,
+        Refusal::WrongLength,
+        Refusal::MapOutsideLimits,
+        Refusal::TotalsOutsideBounds,
+        Refusal::MappedOutsideLimits,
+        Refusal::CentreOutsideLimits,
+        Refusal::NoArea,
+    ];
+    assert_eq!(all.map(Refusal::number), [1, 2, 3, 4, 5, 11, 27]);
+}
