@@ -21,7 +21,7 @@ import time
 
 import text
 from inputs import fixed_inputs
-from limits import byte_limit_inputs, line_limit_inputs, long_inputs
+from limits import MOST_BYTES, byte_limit_inputs, endless_inputs, line_limit_inputs, long_inputs
 from madeup import random_input
 
 # 27 shows as a missing centre.  The others of document 01 cannot arise in text:
@@ -69,15 +69,29 @@ def feed(process, data, sizes):
         pass    # reading ends with 10
 
 
-def printed_by(command, data, chunk_seed):
-    """Standard output of the program; its input is a file, or a pipe if a chunk seed is given."""
+def feed_without_end(process, piece):
+    """Write the piece again and again, until the program reads no more."""
+    try:
+        while True:
+            process.stdin.write(piece)
+            process.stdin.flush()
+    except BrokenPipeError:
+        pass
+
+
+def printed_by(command, data, chunk_seed, without_end=False):
+    """Standard output of the program; its input is a file, or a pipe if a chunk seed is given
+    or the data come again and again without end."""
     with tempfile.TemporaryFile() as given, tempfile.TemporaryFile() as printed:
-        if chunk_seed is None:
+        piped = without_end or chunk_seed is not None
+        if not piped:
             given.write(data)
             given.seek(0)
-        process = subprocess.Popen(command, stdin=given if chunk_seed is None else subprocess.PIPE,
+        process = subprocess.Popen(command, stdin=subprocess.PIPE if piped else given,
                                    stdout=printed, stderr=subprocess.DEVNULL)
-        if chunk_seed is not None:
+        if without_end:
+            threading.Thread(target=feed_without_end, args=(process, data), daemon=True).start()
+        elif piped:
             sizes = chunk_sizes(random.Random(chunk_seed), len(data))
             threading.Thread(target=feed, args=(process, data, sizes), daemon=True).start()
         try:
@@ -138,20 +152,24 @@ def shown(lines, most):
 
 
 def report(name, command, data, chunk_seed):
-    """Print the smallest input found and both outputs, from shortly before they part."""
+    """Print the smallest input found and both outputs."""
     def differs(candidate):
         return printed_by(command, candidate, chunk_seed) != text.output(candidate)
     small = smallest_difference(data, differs)
-    wanted = split_lines(text.output(small))
-    got = split_lines(printed_by(command, small, chunk_seed))
+    fed = "a file" if chunk_seed is None else f"a pipe, chunk seed {chunk_seed}"
+    print(f"DIFFERENCE on: {name} ({len(data)} bytes, through {fed})\n"
+          f"input, shrunk to {len(small)} bytes:\n{shown(split_lines(small), 30)}", end="")
+    show_outputs(command, text.output(small), printed_by(command, small, chunk_seed))
+
+
+def show_outputs(command, wanted, got):
+    """Both outputs, from shortly before they part."""
+    wanted, got = split_lines(wanted), split_lines(got)
     same = 0
     while same < min(len(wanted), len(got)) and wanted[same] == got[same]:
         same += 1
     start = max(0, same - 3)
-    fed = "a file" if chunk_seed is None else f"a pipe, chunk seed {chunk_seed}"
-    print(f"DIFFERENCE on: {name} ({len(data)} bytes, through {fed})\n"
-          f"input, shrunk to {len(small)} bytes:\n{shown(split_lines(small), 30)}"
-          f"outputs part at output line {same + 1}, shown from line {start + 1}\n"
+    print(f"outputs part at output line {same + 1}, shown from line {start + 1}\n"
           f"second program:\n{shown(wanted[start:], 12)}"
           f"{shlex.join(command)}:\n{shown(got[start:], 12)}", end="")
 
@@ -172,6 +190,18 @@ def all_inputs(rng, cases, with_long):
         yield f"{name}, case {case}", data
     if with_long:
         yield from long_inputs(rng)
+
+
+def ends_without_end_of_input(command):
+    """On input that never ends the program ends, with what it prints for as much as it may read."""
+    for name, piece in endless_inputs():
+        wanted = text.output(piece * (MOST_BYTES // len(piece) + 2))
+        got = printed_by(command, piece, None, without_end=True)
+        if got != wanted:
+            print(f"DIFFERENCE on: {name} without end")
+            show_outputs(command, wanted, got)
+            return False
+    return True
 
 
 def main():
@@ -195,6 +225,8 @@ def main():
         inputs += 1
         lines += data.count(b"\n") + (not data.endswith(b"\n") and data != b"")
         missing -= numbers_seen(wanted, missing)
+    if not ends_without_end_of_input(command):
+        return 1
     seen = " ".join(str(number) for number in CAN_ARISE if number not in missing)
     print(f"{inputs} inputs, {lines} lines, no difference; refusals seen: {seen}"
           + (f"; NOT SEEN: {sorted(missing)}" if missing else ""))

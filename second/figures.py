@@ -201,7 +201,7 @@ def abandon(walk):
 # Cells
 
 def lies_after(run, earlier):
-    """A higher row, or the same row and not below the earlier run's end.  Touching is allowed."""
+    """Further up, or in the same row from where the earlier run has ended on."""
     return run.row > earlier.row or (
         run.row == earlier.row and run.first >= earlier.first + earlier.length)
 
@@ -238,7 +238,7 @@ def region_sums(runs):
 # Centre
 
 def rounded_half_up(n, d):
-    """The whole number k with 2×k×d − d ≤ 2×n < 2×k×d + d, for d above 0."""
+    """The whole number nearest to n/d, of two the greater, for d above 0."""
     k = (2 * n + d) // (2 * d)
     assert 2 * k * d - d <= 2 * n < 2 * k * d + d
     return k

@@ -43,6 +43,12 @@ def line_limit_inputs():
     yield "1,000,001 lines, the last one byte", before + b"\nE"
 
 
+def endless_inputs():
+    """Pieces that come again and again without end."""
+    yield "one line", b"x" * 65_000
+    yield "lines of points", b"P\t-2000\t2000\n" * 5_000
+
+
 def long_inputs(rng):
     """Those that cost more: under --long."""
     before = OPEN_WALK + b"\n" * (MOST_LINES - 5)
@@ -60,4 +66,5 @@ def long_inputs(rng):
                                bytes(range(256))])
         data = bytes(rng.choices(alphabet, k=1_000_000)) * 34
         yield f"34,000,000 bytes of {alphabet[:20]!r}", data
+    yield "40,000,000 newlines", b"\n" * 40_000_000
     yield "twice the bytes", b"E\n" + b"x" * (2 * MOST_BYTES)

@@ -19,7 +19,7 @@ class AffineMap(NamedTuple):
 
 
 class Cut(NamedTuple):
-    """"Cuts, starts and moves": a piece and two positions in it, counted from 0."""
+    """"Cuts, starts and moves": where a piece is to be divided: its number and two places in it, from 0."""
     piece: int
     one: int
     other: int
@@ -72,7 +72,7 @@ def map_call(affine, totals):
 # Cuts, starts and moves
 
 def cut_can_be_made(pieces, cut):
-    """The piece exists, both positions lie in it, neither equal nor neighbours round it."""
+    """Whether there is such a piece, with both places in it, and points of it between them on either side."""
     if not 0 <= cut.piece < len(pieces):
         return False
     size = len(pieces[cut.piece])
@@ -84,7 +84,7 @@ def cut_can_be_made(pieces, cut):
 
 
 def after_cut(pieces, cut):
-    """The pieces after one cut; a cut that cannot be made changes no piece."""
+    """The pieces after one cut, or as they were where it is impossible."""
     if not cut_can_be_made(pieces, cut):
         return pieces
     points = pieces[cut.piece]

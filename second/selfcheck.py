@@ -78,6 +78,16 @@ def check_starred_rows():
     check("run centre", centre_of_cells(sums), (0, 3, 3))
 
 
+def check_unnoticed_errors():
+    """"Errors a surveyor would not notice": plots whose figures change with an error."""
+    check("first point repeated", list_call(numbers_of(RECTANGLE + RECTANGLE[:1])),
+          (0, (80, 1200, 960, 14720, 21120, 8960)))
+    check("odd A2", list_call(numbers_of([(0, 0), (1, 0), (0, 1)])), (0, (1, 1, 1, 1, 1, 1)))
+    check("centre at -3/2", centre_of_totals(outline_totals([(-2, 0), (-1, 0), (-1, 1), (-2, 1)])), (0, -1, 1))
+    mirror = AffineMap(a=-1, b=0, g=0, h=1, e=0, f=0)
+    check("mirror", map_call(mirror, outline_totals(UNIT_SQUARE)), (0, (-2, 3, -3, -4, 6, -4)))
+
+
 def check_walk_corners():
     """"Walk and sheet" and 28: corner cases."""
     odd_closed = Walk(False, 7, (0, 0), (0, 0), ZERO_TOTALS._replace(a2=5))
@@ -182,6 +192,7 @@ def check_text_beside_calls(rng):
 if __name__ == "__main__":
     check_listing()
     check_starred_rows()
+    check_unnoticed_errors()
     check_walk_corners()
     check_other_corners()
     made_up = random.Random(1)

@@ -15,7 +15,7 @@ POINT_LINE = re.compile(rb"P\t" + NUMBER + rb"\t" + NUMBER)
 def lines(data):
     """Pairs of line number from 1 and the line without its newline, or None in place of it for 10.
 
-    A newline belongs to the line it ends.  A line is 10 if it is line
+    The newline counts as the last byte of its line.  A line is 10 if it is line
     1,000,001 or holds byte 33,000,001; nothing is read after it.
     """
     number = 0
