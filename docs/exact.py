@@ -1,0 +1,127 @@
+"""Exact figures of outlines and cells, and the formulas of the pages evaluated on them.
+
+The integrals are taken over triangles, by their midpoints, and not by the edge terms of document 01, so that a
+page that says which integral a total is gets checked by another way than the one the total was made by.
+"""
+import ast
+import math
+import operator
+import re
+from fractions import Fraction
+
+TOTALS = ("A2", "X6", "Y6", "XX12", "XY24", "YY12")
+INTEGRANDS = {"area": lambda x, y: 1, "∫x": lambda x, y: x, "∫y": lambda x, y: y,
+              "∫x²": lambda x, y: x * x, "∫xy": lambda x, y: x * y, "∫y²": lambda x, y: y * y}
+METRES = {"area": " in m²", "∫x": " in m³", "∫y": " in m³", "∫x²": " in m⁴", "∫xy": " in m⁴", "∫y²": " in m⁴"}
+CENTRAL = {"Mxx": "∫x²", "Mxy": "∫xy", "Myy": "∫y²"}
+SUMS = {"A": "area", "Σx": "∫x", "Σy": "∫y", "Σx²": "∫x²", "Σxy": "∫xy", "Σy²": "∫y²"}
+NAMES = (*TOTALS, *INTEGRANDS, *(name + unit for name, unit in METRES.items()), *CENTRAL,
+         *(name + " in m⁴" for name in CENTRAL), *SUMS, "outline", "outlines", "points", "exact x", "exact y",
+         "centre x", "centre y", "c", "x", "y", "p", "q", "a", "b", "g", "h", "e", "f", "d")
+
+
+# Integrals
+
+def over_triangle(integrand, a, b, c):
+    """The signed integral: signed area times the mean at the midpoints of the sides, exact up to squares."""
+    doubled = (b[0] - a[0]) * (c[1] - a[1]) - (c[0] - a[0]) * (b[1] - a[1])
+    middles = [((s[0] + t[0]) / Fraction(2), (s[1] + t[1]) / Fraction(2)) for s, t in ((a, b), (b, c), (c, a))]
+    return Fraction(doubled) / 2 * sum(Fraction(integrand(x, y)) for x, y in middles) / 3
+
+
+def integral(integrand, outlines):
+    """The sum over outlines of the triangles that each edge makes with its outline's first point."""
+    return sum((over_triangle(integrand, points[0], points[i], points[i + 1])
+                for points in outlines for i in range(1, len(points) - 1)), Fraction(0))
+
+
+def outline_figures(outlines):
+    """By name, every figure that is defined by an integral; the centre's where the area is not 0."""
+    figures = {name: integral(f, outlines) for name, f in INTEGRANDS.items()}
+    in_metres = [[(Fraction(x, 10), Fraction(y, 10)) for x, y in points] for points in outlines]
+    figures |= {name + METRES[name]: integral(f, in_metres) for name, f in INTEGRANDS.items()}
+    if figures["area"] != 0:
+        x, y = (figures[name] / figures["area"] for name in ("∫x", "∫y"))
+        figures |= {"exact x": x, "exact y": y}
+        about = [[(s - x, t - y) for s, t in points] for points in outlines]
+        about_in_metres = [[(s / 10, t / 10) for s, t in points] for points in about]
+        for name, moment in CENTRAL.items():
+            figures[name] = integral(INTEGRANDS[moment], about)
+            figures[name + " in m⁴"] = integral(INTEGRANDS[moment], about_in_metres)
+    return figures
+
+
+def region_figures(runs):
+    """The six sums of the cells of runs (row, first column, length), cell by cell, and what follows from them."""
+    cells = {(column, row) for row, first, length in runs for column in range(first, first + length)}
+    figures = {name: Fraction(sum(INTEGRANDS[f](x, y) for x, y in cells)) for name, f in SUMS.items()}
+    if cells:
+        x, y = figures["Σx"] / len(cells), figures["Σy"] / len(cells)
+        figures |= {"exact x": x, "exact y": y, "centre x": half_up(x), "centre y": half_up(y)}
+        for name, moment in CENTRAL.items():
+            figures[name] = sum(INTEGRANDS[moment](s - x, t - y) for s, t in cells)
+    return figures
+
+
+def half_up(quotient):
+    """The nearest whole number; a half goes up."""
+    return Fraction(math.floor(quotient + Fraction(1, 2)))
+
+
+# Formulas
+
+FORMULA_NAME = re.compile("|".join(re.escape(name) for name in sorted(NAMES, key=len, reverse=True)) + "|[A-Za-zΣ∫]+")
+SIGNS = {"−": "-", "×": "*", "^": "**", "²": "**2", "³": "**3", "⁴": "**4", "⌊": "floor(", "⌋": ")"}
+OPERATORS = {ast.Add: operator.add, ast.Sub: operator.sub, ast.Mult: operator.mul, ast.Div: operator.truediv,
+             ast.Pow: operator.pow}
+
+
+class NotAFormula(Exception):
+    """The text has a word or a sign that no formula has."""
+
+
+def value(text, figures):
+    """The value of a formula; KeyError where a name has no figure, ZeroDivisionError where there is none."""
+    found = []
+
+    def numbered(match):
+        if match[0] not in NAMES:
+            raise NotAFormula(match[0])
+        found.append(match[0])
+        return f"({len(found) - 1},)"
+
+    code = FORMULA_NAME.sub(numbered, re.sub(r"(?<=\d),(?=\d{3})", "", text))
+    for sign, written in SIGNS.items():
+        code = code.replace(sign, written)
+    try:
+        tree = ast.parse(code.strip(), mode="eval").body
+    except SyntaxError as error:
+        raise NotAFormula(text) from error
+    return evaluated(tree, [figures[name] for name in found])
+
+
+def evaluated(tree, named):
+    """Sums, products, quotients, powers, the whole part, whole numbers, and names by their place."""
+    match tree:
+        case ast.Tuple(elts=[ast.Constant(value=place)]):
+            return Fraction(named[place])
+        case ast.Constant(value=int() as number):
+            return Fraction(number)
+        case ast.UnaryOp(op=ast.USub(), operand=part):
+            return -evaluated(part, named)
+        case ast.BinOp(left=left, op=sign, right=right) if type(sign) in OPERATORS:
+            return OPERATORS[type(sign)](evaluated(left, named), evaluated(right, named))
+        case ast.Call(func=ast.Name(id="floor"), args=[part]):
+            return Fraction(math.floor(evaluated(part, named)))
+    raise NotAFormula(ast.dump(tree))
+
+
+RELATION = re.compile("(=|≤|<)")
+HOLDS = {"=": operator.eq, "≤": operator.le, "<": operator.lt}
+
+
+def holds(text, figures):
+    """Whether each relation of an equation or a chain of inequalities holds."""
+    parts = RELATION.split(text)
+    values = [value(part, figures) for part in parts[0::2]]
+    return all(HOLDS[sign](values[i], values[i + 1]) for i, sign in enumerate(parts[1::2]))

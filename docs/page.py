@@ -1,0 +1,242 @@
+"""A page whose every figure is recomputed: its blocks, tables and formulas. See check.py for what a page may have."""
+import random
+import re
+import subprocess
+from fractions import Fraction
+from pathlib import Path
+
+import exact
+import figures
+import moves
+import pictures
+import text
+
+ROOT = Path(__file__).resolve().parent.parent
+SEED = 7
+MADE_UP = 100
+ALLOWED = re.compile(r"\b(A2|X6|Y6|XX12|XY24|YY12|[Dd]ocument 01|document 000|[Rr]efusal (10|27))\b")
+POINT = re.compile(r"\((-?\d+), (-?\d+)\)")
+wrong = []
+
+
+def expect(right, where, what):
+    """Counts a difference."""
+    if not right:
+        wrong.append(f"{where}: {what}")
+
+
+# Figures by name
+
+def outlines_of(given, printed):
+    """The points of each accepted outline: the lines that no R line names, in turn."""
+    refused = {int(line.split("\t")[1]) for line in printed.splitlines() if line.startswith("R")}
+    done, walk = [], []
+    for number, line in enumerate(given.splitlines(), 1):
+        if number in refused:
+            continue
+        if line == "E":
+            done.append(walk)
+        walk = [*walk, tuple(map(int, line.split("\t")[1:]))] if line.startswith("P") else []
+    return done
+
+
+def printed_figures(given, printed):
+    """For each O line and the S line, as `O 1` or `S`: the printed fields and the exact figures, by name."""
+    outlines = outlines_of(given, printed)
+    found = {}
+    for line in printed.splitlines():
+        letter, *fields = line.split("\t")
+        if letter == "R":
+            continue
+        label = f"O {fields[0]}" if letter == "O" else "S"
+        names = ("outline", "points") if letter == "O" else ("outlines",)
+        walked = [outlines[int(fields[0]) - 1]] if letter == "O" else outlines
+        found[label] = exact.outline_figures(walked) | {"of": walked} | {
+            name: Fraction(field) for name, field in zip((*names, *exact.TOTALS, "centre x", "centre y"), fields) if field != "-"}
+    return found
+
+
+def made_up():
+    """Figures of made-up outlines, edges, maps and regions, by the second program and by exact integrals."""
+    chance = random.Random(SEED)
+    cases = []
+    for _ in range(MADE_UP):
+        points = [(chance.randint(-20, 20), chance.randint(-20, 20)) for _ in range(chance.randint(3, 8))]
+        totals = figures.outline_totals(points)
+        number, x, y = figures.centre_of_totals(totals)
+        centre = {"centre x": x, "centre y": y} if number == 0 else {}
+        cases.append(exact.outline_figures([points]) | dict(zip(exact.TOTALS, totals)) | centre | {"of": [points]})
+        (x, y), (p, q) = points[:2]
+        cases.append({"x": x, "y": y, "p": p, "q": q, "c": 2 * exact.integral(exact.INTEGRANDS["area"], [[(0, 0), (x, y), (p, q)]])})
+        a, b, g, h = (chance.randint(-2, 2) for _ in range(4))
+        cases.append({"a": a, "b": b, "g": g, "h": h, "d": exact.integral(exact.INTEGRANDS["area"], [[(0, 0), (a, g), (a + b, g + h), (b, h)]])})
+        row, first, length = chance.randint(0, 9), chance.randint(0, 9), chance.randint(1, 9)
+        cases.append(region([(row, first, length), (row + 1, first + 2, length)]))
+    return cases
+
+
+def region(runs):
+    """The figures of a region, its sums and centre held to the second program's."""
+    found = exact.region_figures(runs)
+    number, _, sums = figures.region_sums([figures.Run(*run) for run in runs])
+    expect(number == 0 and list(sums) == [found[name] for name in exact.SUMS], "a region", f"{runs} has other sums")
+    expect(figures.centre_of_cells(sums)[1:] == (found["centre x"], found["centre y"]), "a region", f"{runs} has another centre")
+    return found
+
+
+# A page
+
+class Page:
+    """A page taken apart: its blocks computed, then its formulas tried."""
+
+    def __init__(self, path, plots):
+        self.path, self.plots = path, plots
+        self.lines = path.read_text().splitlines()
+        self.blocks = {}
+        self.general = made_up()
+        self.terms = {}
+        self.read_blocks()
+
+    def at(self, number):
+        return f"{self.path.relative_to(ROOT)}:{number + 1}"
+
+    def read_blocks(self):
+        """Computes every fenced block; `self.blocks` has, by its last line, the figures that it gives."""
+        number, given, affine = 0, None, None
+        while number < len(self.lines):
+            kind, _, name = self.lines[number].removeprefix("```").partition(" ")
+            if not self.lines[number].startswith("```"):
+                number += 1
+                continue
+            last = self.lines.index("```", number + 1)
+            body = "".join(line + "\n" for line in self.lines[number + 1:last])
+            if kind == "input":
+                given = body
+                expect(not name or (ROOT / name).read_text() == body, self.at(number), f"not the text of {name}")
+            elif kind == "output":
+                self.output(number, given, body)
+                self.blocks[last] = printed_figures(given, body)
+                self.general += self.blocks[last].values()
+                if affine is not None:
+                    self.moved(number, affine, self.blocks[last])
+                given = affine = None
+            elif kind == "runs":
+                self.blocks[last] = {"region": region([tuple(map(int, line.split("\t"))) for line in body.splitlines()])}
+                self.general += self.blocks[last].values()
+            elif kind == "map":
+                (a, b, e), (g, h, f) = (map(int, line.split("\t")) for line in body.splitlines())
+                affine = moves.AffineMap(a, b, g, h, e, f)
+            self.lines[number:last + 1] = [""] * (last + 1 - number)
+            number = last + 1
+
+    def output(self, number, given, body):
+        """The block is what the program prints, and what the second program prints."""
+        printed = subprocess.run([self.plots], input=given.encode(), stdout=subprocess.PIPE, check=True).stdout
+        expect(printed == body.encode(), self.at(number), f"{self.plots} prints\n{printed.decode()}")
+        expect(text.output(given.encode()) == body.encode(), self.at(number), "the second program prints something else")
+
+    def moved(self, number, affine, found):
+        """The second outline is the first one moved, and its totals are the map call's answer."""
+        first, second = found["O 1"], found["O 2"]
+        expect(moves.moved(affine, first["of"][0]) == second["of"][0], self.at(number), "the second outline is not the first one moved")
+        answer = moves.map_call(affine, figures.Totals(*(int(first[name]) for name in exact.TOTALS)))
+        expect(answer == (0, figures.Totals(*(second[name] for name in exact.TOTALS))), self.at(number), f"the map call answers {answer}")
+
+    def check(self):
+        """Every table and code span in turn, and no digit outside them."""
+        block, now, table = {}, None, None
+        for number, line in enumerate(self.lines):
+            block = self.blocks.get(number, block)
+            comment = re.fullmatch(r"<!-- (\w+)(?:: (.*))? -->", line)
+            if line.startswith("#"):
+                now = table = None
+            elif comment and comment[1] == "figures":
+                now = block.get(comment[2])
+                expect(now is not None, self.at(number), "the block above has no such line")
+            elif comment:
+                table = [comment[1]]
+            elif table and line.startswith("|"):
+                table.append([cell.strip() for cell in line.strip("|").split("|")])
+                if not self.lines[number + 1].startswith("|"):
+                    getattr(self, "table_" + table[0])(number, table[1:], now)
+                if table[0] in ("edges", "loops"):
+                    continue
+            elif table and len(table) > 1:
+                table = None
+            self.spans(number, line, now)
+
+    def spans(self, number, line, now):
+        """The code spans of a line; what is left of it has no digit."""
+        rest = re.sub(r"\]\([^)]*\)|<!--.*?-->|`[^`]*`", "", line)
+        expect(not re.search(r"\d", ALLOWED.sub("", rest)), self.at(number), f"a figure that nothing checks: {line.strip()[:100]}")
+        for span in re.findall(r"`([^`]*)`", line):
+            if exact.RELATION.search(span):
+                self.relation(number, span, now)
+            elif re.search(r"\d", ALLOWED.sub("", span)):
+                expect(any(name in span for name in exact.NAMES), self.at(number), f"a figure that nothing checks: {span}")
+
+    def relation(self, number, span, now):
+        """It holds of the named line; or, a general formula, wherever its names have figures, and somewhere they do."""
+        tried = 0
+        for known in [now] if now else self.general:
+            try:
+                right = exact.holds(span, known)
+            except exact.NotAFormula as error:
+                return expect(False, self.at(number), f"no formula: {span} ({error})")
+            except (KeyError, ZeroDivisionError):
+                continue
+            tried += 1
+            if not right:
+                return expect(False, self.at(number), f"does not hold: {span}")
+        return expect(tried, self.at(number), f"nothing to try it on: {span}")
+
+    # Tables
+
+    def table_terms(self, number, rows, _):
+        """The terms that the page gives, summed over the edges, are the totals of every outline."""
+        self.terms = {row[0]: row[1].strip("`") for row in rows[2:]}
+        expect(tuple(self.terms) == exact.TOTALS, self.at(number), "other totals")
+        for known in self.general:
+            for name, term in self.terms.items():
+                if name in known:
+                    summed = sum(self.term(name, *edge) for points in known["of"] for edge in zip(points, points[1:] + points[:1]))
+                    expect(summed == known[name], self.at(number), f"{term} does not sum to {name} over {known['of']}")
+
+    def term(self, name, start, end):
+        (x, y), (p, q) = start, end
+        return exact.value(self.terms[name], {"x": x, "y": y, "p": p, "q": q, "c": x * q - p * y})
+
+    def table_map(self, number, rows, _):
+        """The formulas give what the map call and the moved points give."""
+        chance = random.Random(SEED)
+        for known in self.general:
+            if "A2" not in known:
+                continue
+            affine = moves.AffineMap(*(chance.randint(-2, 2) for _ in range(4)), *(chance.randint(-9, 9) for _ in range(2)))
+            a, b, g, h, e, f = affine
+            names = known | {"a": a, "b": b, "g": g, "h": h, "e": e, "f": f, "d": a * h - b * g}
+            totals = figures.Totals(*(int(known[name]) for name in exact.TOTALS))
+            moved = [figures.outline_totals(moves.moved(affine, points)) for points in known["of"]]
+            by_page = [exact.value(row[1].strip("`"), names) for row in rows[2:]]
+            expect([row[0] for row in rows[2:]] == list(exact.TOTALS), self.at(number), "other totals")
+            expect(by_page == list(moves.mapped_totals(affine, totals)), self.at(number), f"not the map call's formulas: {affine}")
+            expect(by_page == [sum(column) for column in zip(*moved)], self.at(number), f"not the moved outline's totals: {affine}")
+
+    def table_edges(self, number, rows, now):
+        """Edges of the named line's outline in turn, each with the named terms, and their sums."""
+        names = [cell.strip("`") for cell in rows[0][1:]]
+        points = now["of"][0]
+        edges = list(zip(points, points[1:] + points[:1]))
+        expected = [[f"`{start} → {end}`", *(f"`{self.term(name, start, end)}`" for name in names)] for start, end in edges]
+        expected.append(["Sum", *(f"`{now[name]}`" for name in names)])
+        expect(rows[2:] == expected, self.at(number), f"the edges are {expected}")
+
+    def table_loops(self, number, rows, now):
+        """Loops, each with its exact figures, which add up to those of the named line."""
+        names = [cell.strip("`") for cell in rows[0][1:]]
+        loops = [[(int(x), int(y)) for x, y in POINT.findall(row[0])] for row in rows[2:-1]]
+        found = [[str(exact.outline_figures([loop])[name]) for name in names] for loop in loops] + [[str(now[name]) for name in names]]
+        expect([[cell.strip("`") for cell in row[1:]] for row in rows[2:]] == found, self.at(number), f"the loops have {found}")
+        expect([str(exact.outline_figures(loops)[name]) for name in names] == found[-1], self.at(number), "the loops do not add up")
+        drawn = [sorted(loop) for loop in pictures.loops_of(now["of"][0])]
+        expect(sorted(map(sorted, loops)) == sorted(drawn), self.at(number), f"the outline's loops are {drawn}")

@@ -1,0 +1,110 @@
+"""The pictures of the pages, from the example files: python3 docs/pictures.py writes docs/NAME.svg for each.
+
+A loop that is walked anticlockwise counts as positive and is drawn light; one that is walked clockwise counts as
+negative and is drawn dark.
+"""
+from fractions import Fraction
+from pathlib import Path
+
+DOCS = Path(__file__).resolve().parent
+EXAMPLES = DOCS.parent / "examples"
+PICTURES = ("rectangle", "figure-eight")
+WIDTH = 400
+MARGIN = 76
+POSITIVE, NEGATIVE, LINE, GRID, TEXT = "#cfe8cf", "#e8b4a8", "#1f3d1f", "#dddddd", "#222222"
+
+
+def points_of(name):
+    """The points of an example file."""
+    lines = (line.split("\t") for line in (EXAMPLES / f"{name}.txt").read_text().splitlines())
+    return [(int(line[1]), int(line[2])) for line in lines if line[0] == "P"]
+
+
+def crossing(a, b, c, d):
+    """How far along from a to b, and where, the edge crosses that from c to d; None if it does not, within both."""
+    across = (b[0] - a[0]) * (d[1] - c[1]) - (b[1] - a[1]) * (d[0] - c[0])
+    if across == 0:
+        return None
+    along = Fraction((c[0] - a[0]) * (d[1] - c[1]) - (c[1] - a[1]) * (d[0] - c[0]), across)
+    other = Fraction((c[0] - a[0]) * (b[1] - a[1]) - (c[1] - a[1]) * (b[0] - a[0]), across)
+    if 0 < along < 1 and 0 < other < 1:
+        return along, (a[0] + along * (b[0] - a[0]), a[1] + along * (b[1] - a[1]))
+    return None
+
+
+def loops_of(points):
+    """The outline taken apart at its crossings: each loop is closed when the walk comes to a crossing again."""
+    edges = list(zip(points, points[1:] + points[:1]))
+    walk = []
+    for a, b in edges:
+        walk += [a, *(place for _, place in sorted(filter(None, (crossing(a, b, c, d) for c, d in edges))))]
+    loops, path = [], []
+    for place in walk:
+        if place in path:
+            at = path.index(place)
+            loops.append(path[at:])
+            del path[at:]
+        path.append(place)
+    return [*loops, path]
+
+
+def signed_area(points):
+    """Half the sum of the cross products."""
+    return Fraction(sum(x * q - p * y for (x, y), (p, q) in zip(points, points[1:] + points[:1])), 2)
+
+
+def picture(name):
+    """The picture as SVG text."""
+    points = points_of(name)
+    xs, ys = [0, *(x for x, _ in points)], [0, *(y for _, y in points)]
+    step = Fraction(WIDTH - 2 * MARGIN, max(max(xs) - min(xs), max(ys) - min(ys)))
+    height = float((max(ys) - min(ys)) * step + 2 * MARGIN)
+
+    def at(place):
+        return (f"{float((place[0] - min(xs)) * step + MARGIN):.1f}", f"{height - float((place[1] - min(ys)) * step) - MARGIN:.1f}")
+
+    def line(a, b, rest):
+        (x1, y1), (x2, y2) = at(a), at(b)
+        return f'<line x1="{x1}" y1="{y1}" x2="{x2}" y2="{y2}" {rest}/>'
+
+    def text(place, words, right=0, down=4, size=12):
+        anchor = {-1: "end", 0: "middle", 1: "start"}[(right > 0) - (right < 0)]
+        x, y = map(float, at(place))
+        return f'<text x="{x + right:.1f}" y="{y + down:.1f}" font-size="{size}" text-anchor="{anchor}">{words}</text>'
+
+    # A label stands away from the middle of the outline.
+    middle = tuple(Fraction(sum(place[i] for place in points), len(points)) for i in (0, 1))
+    drawn = [f'<svg xmlns="http://www.w3.org/2000/svg" width="{WIDTH}" height="{height:.0f}" viewBox="0 0 {WIDTH} {height:.0f}" font-family="sans-serif" fill="{TEXT}">',
+             '<defs><marker id="arrow" viewBox="0 0 8 8" refX="6" refY="4" markerWidth="8" markerHeight="8" orient="auto">'
+             f'<path d="M0 0 L8 4 L0 8 z" fill="{LINE}"/></marker></defs>',
+             f'<rect width="{WIDTH}" height="{height:.0f}" fill="#ffffff"/>']
+    for x in range(min(xs), max(xs) + 1):
+        drawn.append(line((x, min(ys)), (x, max(ys)), f'stroke="{GRID}"'))
+    for y in range(min(ys), max(ys) + 1):
+        drawn.append(line((min(xs), y), (max(xs), y), f'stroke="{GRID}"'))
+    loops = loops_of(points)
+    for loop in loops:
+        corners = " ".join(",".join(at(place)) for place in loop)
+        drawn.append(f'<polygon points="{corners}" fill="{POSITIVE if signed_area(loop) > 0 else NEGATIVE}"/>')
+    for a, b in zip(points, points[1:] + points[:1]):
+        halfway = ((a[0] + b[0]) / Fraction(2), (a[1] + b[1]) / Fraction(2))
+        short = tuple(s + (t - s) * Fraction(3, 5) for s, t in zip(a, halfway))
+        drawn += [line(a, b, f'stroke="{LINE}" stroke-width="2"'), line(a, short, f'stroke="{LINE}" stroke-width="2" marker-end="url(#arrow)"')]
+    for loop in loops:
+        area = signed_area(loop)
+        centre = tuple(Fraction(sum(place[i] for place in loop), len(loop)) for i in (0, 1))
+        drawn.append(text(centre, f"{'+' if area > 0 else '−'}{abs(area)} dm²"))
+    for number, (x, y) in enumerate(points, 1):
+        px, py = at((x, y))
+        drawn.append(f'<circle cx="{px}" cy="{py}" r="3.5" fill="{LINE}"/>')
+        east, north = ((place > mean) - (place < mean) for place, mean in zip((x, y), middle))
+        drawn.append(text((x, y), f"{number}: ({x}, {y})", 10 * east, 4 - 16 * north))
+    px, py = map(float, at((0, 0)))
+    drawn.append(f'<rect x="{px - 7:.1f}" y="{py - 7:.1f}" width="14" height="14" fill="none" stroke="{LINE}"/>')
+    drawn.append(text(((max(xs) + min(xs)) / Fraction(2), min(ys)), "x east, y north, in decimetres from the peg (the small square)", 0, 50, 11))
+    return "\n".join([*drawn, "</svg>"]) + "\n"
+
+
+if __name__ == "__main__":
+    for each in PICTURES:
+        (DOCS / f"{each}.svg").write_text(picture(each))
