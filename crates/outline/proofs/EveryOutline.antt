@@ -2,7 +2,7 @@
 use mathlib.Core.Path.{_≡_, refl, sym, _∙_, ap, subst}
 use mathlib.Core.Bool.{false, cond}
 use mathlib.Core.List.{List, [], _∷_, _++_, map, append-assoc, append-nil}
-use Prim.Native.Nat.{ℕ, _+_, _<_, _≤_}
+use Prim.Native.Nat.{_+_, _<_, _≤_}
 use native.Mathlib.Omega.{arith}
 use lib.Dec.{eqb}
 use lib.ListN.{length, length-append}
@@ -12,27 +12,17 @@ use Rattle.outline.specs.declared.Position.{Position}
 use Rattle.outline.specs.declared.Totals.{Totals}
 use Rattle.outline.specs.declared.Walk.{Walk}
 use Rattle.outline.specs.declared.Sheet.{Sheet}
-use Rattle.outline.specs.EdgeSums.{plus, openEdges, sumOver, outlineTotals, over, exceed}
+use Rattle.outline.specs.EdgeSums.{openEdges, sumOver, outlineTotals, over, exceed}
 use Rattle.outline.specs.ListCall.{accepted, points, listCall}
 use Rattle.outline.specs.MapCall.{totalLimits}
-use Rattle.outline.specs.WalkCalls.{closed, newSheet, sheetWith, unsoundSheet, EndOutcome, beginCall, pointCall, endCall}
-use Rattle.outline.specs.CallLists.{Call, begin, point, end, numberOf, walkAfter, pointsWith, next, after, from, walkOf}
-use Rattle.outline.proofs.Every.{All, all-append}
+use Rattle.outline.specs.WalkCalls.{closed, newSheet, unsoundSheet, beginCall, pointCall, endCall}
+use Rattle.outline.specs.CallLists.{begin, point, end, numberOf, walkAfter, pointsWith, next, after, from, walkOf}
+use Rattle.outline.specs.EveryOutline.{answers, Room, endedWith, EveryOutline}
+use Rattle.outline.proofs.Every.{All, all-append, all-member}
 use Rattle.outline.proofs.TotalsLaws.{zeros-plus}
 use Rattle.outline.proofs.Limits.{Inside, not-outside, Outline, accepts-only-outlines, fit-exceed, limits-fit, accepted-fit}
 use Rattle.outline.proofs.WalkOf.{extended-is, closed-is, sound-walk, sound-closed}
 use Rattle.outline.proofs.WalkedOutline.{traceOf}
-
--- The numbers that a list of calls answers, each call given the walk that the last one left.
-abbrev pub answers : Walk → List Call → List ℕ
-answers w [] = []
-answers w (c ∷ calls) = numberOf w c ∷ answers (walkAfter w c) calls
-
--- A sheet that 28 takes, that has fewer than 64 outlines, and that stays within its limits with t added.
-pub record Room (s : Sheet) (t : Totals) : Type 0 where
-  pub sound : unsoundSheet s ≡ false
-  pub count : s .count < 64
-  pub totals : exceed totalLimits (plus (s .totals) t) ≡ false
 
 -- A new sheet has room for every outline.
 pub new-sheet-room : (zs : List ℤ) (t : Totals) → listCall zs ≡ accepted t → Room newSheet t
@@ -48,10 +38,6 @@ begin-answer w h = rw (sound-closed w h, h)
 point-answer : (qs : List Position) → length qs < 1024 → All Inside qs → (p : Position) → Inside p → pointCall (walkOf qs) p ≡ record { number = 0; walk = walkOf (qs ++ p ∷ []) }
 unfolding pointCall
 point-answer qs n h p k = rw (sound-walk qs (omega arith) h, not-outside p k, lt-leb 1024 (length qs) n, extended-is qs p)
-
--- What an accepted end leaves, t being its totals.
-abbrev pub endedWith : Sheet → Totals → EndOutcome
-endedWith s t = record { number = 0; totals = t; walk = closed; sheet = sheetWith s t }
 
 end-answer : (ps : List Position) (s : Sheet) → Outline ps → Room s (outlineTotals ps) → endCall (walkOf ps) s ≡ endedWith s (outlineTotals ps)
 unfolding endCall
@@ -81,16 +67,7 @@ all-taken (p ∷ ps) qs n h k =
 
 -- ---- the theorem
 
--- What is claimed of the points ps, walked from w into the sheet s, and of the totals t.
-pub record Walkable (w : Walk) (ps : List Position) (s : Sheet) (t : Totals) : Type 0 where
-  -- Begin, every point and the end are accepted, with number 0,
-  pub none-refused : All (λ n. n ≡ 0) (answers w (begin ∷ map point ps ++ end s ∷ []))
-  -- the points taken are ps,
-  pub taken : after (from w) (begin ∷ map point ps) .points ≡ ps
-  -- and the end answers t, closes the walk and adds t to the sheet.
-  pub ended : endCall (after (from w) (begin ∷ map point ps) .walk) s ≡ endedWith s t
-
-pub every-outline : (zs : List ℤ) (t : Totals) → listCall zs ≡ accepted t → (w : Walk) → w .is_open ≡ false → (s : Sheet) → Room s t → Walkable w (points zs) s t
+pub every-outline : EveryOutline
 unfolding numberOf walkAfter after next pointsWith
 every-outline zs t e w h s room =
     let k = accepts-only-outlines zs t e in
@@ -99,7 +76,7 @@ every-outline zs t e w h s room =
     let b = begin-answer w h in
     let r : after (from w) (begin ∷ map point (points zs)) ≡ traceOf (points zs) = ap (λ a. after (record { walk = a .walk; points = cond (eqb (a .number) 0) [] [] }) (map point (points zs))) b ∙ all-taken (points zs) [] (omega (arith, o .few)) tt (o .inside) in
     record {
-      none-refused = (ap (λ a. a .number) b, subst (λ a. All (λ n. n ≡ 0) (answers (a .walk) (map point (points zs) ++ end s ∷ []))) (sym b) (all-accepted s (points zs) [] o room′ tt (o .inside)));
+      none-refused = all-member (λ n. n ≡ 0) _ (ap (λ a. a .number) b, subst (λ a. All (λ n. n ≡ 0) (answers (a .walk) (map point (points zs) ++ end s ∷ []))) (sym b) (all-accepted s (points zs) [] o room′ tt (o .inside)));
       taken = ap (λ r. r .points) r;
       ended = ap (λ r. endCall (r .walk) s) r ∙ end-answer (points zs) s o room′ ∙ ap (endedWith s) (sym (k .1));
     }

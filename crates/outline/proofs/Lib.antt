@@ -19,6 +19,7 @@ pub mod PiecesAddUp
 pub mod PiecesLaws
 pub mod WalkOf
 pub mod WalkedOutline
+pub mod WalkedAgain
 pub mod EveryOutline
 pub mod SheetSums
 pub mod CornerCases

@@ -1,20 +1,19 @@
--- Demand 3, whole. A cut after a move is a cut for the term between moved ends, which changes sign with its edge as well; and 5 never comes, since the mapped
+-- Demand 3, whole: specs/PiecesAddUp. A cut after a move is a cut for the term between moved ends, which changes sign with its edge as well; and 5 never comes, since the mapped
 -- totals are those of an outline within the limits.
 use mathlib.Core.Path.{_≡_, refl, sym, _∙_, ap, ap₂}
-use mathlib.Core.Bool.{false}
-use mathlib.Core.List.{List, [], _∷_, map, List·Memᴰ}
+use mathlib.Core.List.{List, [], _∷_, map}
 use Prim.Native.Nat.{ℕ, suc}
 use native.Mathlib.Omega.{arith}
 use lib.IntN.{ℤ, pos, negℤ, _+ℤ_, +ℤ-idr}
 use lib.ListN.{length, take, drop, length-append, length-drop, length-take, length-reverse}
 use Rattle.integers.proofs.Ring.{ring, quote}
 use Rattle.outline.specs.declared.Position.{Position}
-use Rattle.outline.specs.declared.Totals.{Totals}
 use Rattle.outline.specs.declared.AffineMap.{AffineMap}
 use Rattle.outline.specs.EdgeSums.{Term, six, plus, outlineTotals}
-use Rattle.outline.specs.ListCall.{accepted, points, numbers, anyOutside, listCall}
-use Rattle.outline.specs.MapCall.{movePoint, moved, disallowed, mapCall}
-use Rattle.outline.specs.Pieces.{Piece, Cut, piecesOf, startAt, Direction, forwards, backwards, walked, placed, totalsOf, sumOf, directed}
+use Rattle.outline.specs.ListCall.{accepted, points, numbers, listCall}
+use Rattle.outline.specs.MapCall.{movePoint, moved, mapCall}
+use Rattle.outline.specs.Pieces.{Piece, piecesOf, startAt, Direction, forwards, backwards, walked, placed, totalsOf, sumOf, directed}
+use Rattle.outline.specs.PiecesAddUp.{PiecesAddUp}
 use Rattle.outline.proofs.Every.{All, all-append, all-take, all-drop, all-reverse, all-member, all-map}
 use Rattle.outline.proofs.EdgeSumLaws.{around, around-map}
 use Rattle.outline.proofs.Limits.{OutlineIn, Outline, OutlineList, accepts-points, accepts-only-outlines}
@@ -90,19 +89,7 @@ accepted-sum (p ∷ pieces) h = ap₂ plus (ap (λ r. r .totals) (accepts-points
 
 -- ---- the theorem
 
--- What is claimed of some pieces, all walked in the direction w and moved by the map m, and of the uncut outline's totals t.
-pub record PiecesAddUp (m : AffineMap) (w : Direction) (t : Totals) (pieces : List Piece) : Type 0 where
-  -- The map's own answer for t, which is never refused.
-  pub image : Totals
-  pub map-accepts : mapCall m t ≡ accepted image
-  -- The list call refuses no piece.
-  pub list-accepts : (p : Piece) → List·Memᴰ p pieces → listCall (numbers p) ≡ accepted (totalsOf p)
-  -- The pieces' totals, each of the six by itself, add up to the map's answer, with all six signs turned if walked backwards.
-  pub sum : sumOf (map totalsOf pieces) ≡ directed w image
-
--- For every list of numbers that the list call accepts, every list of cuts, every start in each piece, either direction and every map that 3 does
--- not refuse and that moves no point out of the limits.
-pub pieces-add-up : (zs : List ℤ) (t : Totals) → listCall zs ≡ accepted t → (cuts : List Cut) (start : ℕ → ℕ) (w : Direction) (m : AffineMap) → disallowed m ≡ false → anyOutside (moved m (points zs)) ≡ false → PiecesAddUp m w t (map (moved m) (placed w start (piecesOf (points zs) cuts)))
+pub pieces-add-up : PiecesAddUp
 pieces-add-up zs t e cuts start w m allowed bounds =
     record {
       image = outlineTotals (moved m ps);

@@ -15,6 +15,7 @@ use Rattle.outline.specs.EdgeSums.{outlineTotals, plus, over, exceed}
 use Rattle.outline.specs.Pieces.{sumOf}
 use Rattle.outline.specs.WalkCalls.{newSheet, addedTotals, sheetWith, unsoundSheet, EndOutcome, endCall}
 use Rattle.outline.specs.CallLists.{sheetAfter, addedBy, Walking, reached, outlinesOn}
+use Rattle.outline.specs.SheetSums.{HoldsSums, SheetSums, WalkedSheetSums}
 use Rattle.integers.proofs.Flags.{neither}
 use Rattle.outline.proofs.CallCases as Case
 use Rattle.outline.proofs.TotalsLaws.{plus-assoc, plus-zeros, zeros-plus}
@@ -46,17 +47,7 @@ grown (w ∷ ws) s m = go (λ r k. grown ws r k) (endCall w s) (Case.end-case w 
 
 -- ---- the theorem
 
--- What is claimed of a sheet, ts being the totals that the accepted ends answered and added.
-pub record SheetSums (s : Sheet) (ts : List Totals) : Type 0 where
-  -- The count is the number of accepted ends,
-  pub count : s .count ≡ length ts
-  -- the totals are the sums of the totals added, each of the six by itself,
-  pub totals : s .totals ≡ sumOf ts
-  -- and 28 takes the sheet.
-  pub sound : unsoundSheet s ≡ false
-
--- After every list of ends from a new sheet, each with whichever walk.
-pub sheet-sums : (ws : List Walk) → SheetSums (sheetAfter newSheet ws) (addedBy newSheet ws)
+pub sheet-sums : SheetSums
 unfolding unsoundSheet exceed over
 sheet-sums ws =
     let g = grown ws newSheet refl in
@@ -74,9 +65,8 @@ added-outlines (k ∷ ks) s = go (outlinesOn (e .sheet) (map reached ks)) (added
     e = endCall (reached k .walk) s
 
     go : {ts : List Totals} (os : List (List Position)) → ts ≡ map outlineTotals os → (b : Bool) → eqb (e .number) 0 ≡ b → cond b (e .totals ∷ ts) ts ≡ map outlineTotals (cond b (reached k .points ∷ os) os)
-    go os rest true h = ap₂ {C = List Totals} (λ t ts. t ∷ ts) (walked-outline (k .start) (k .is-closed) (k .calls) .edge-sums s (eqb-true (e .number) 0 h)) rest
+    go os rest true h = ap₂ {C = List Totals} (λ t ts. t ∷ ts) (walked-outline k .edge-sums s (eqb-true (e .number) 0 h)) rest
     go os rest false h = rest
 
--- After every list of ends from a new sheet, each with the walk that some calls made from one marked closed: the sheet holds the outlines walked, and nothing else.
-pub walked-sheet-sums : (ks : List Walking) → SheetSums (sheetAfter newSheet (map (λ k. reached k .walk) ks)) (map outlineTotals (outlinesOn newSheet (map reached ks)))
-walked-sheet-sums ks = subst (SheetSums (sheetAfter newSheet (map (λ k. reached k .walk) ks))) (added-outlines ks newSheet) (sheet-sums (map (λ k. reached k .walk) ks))
+pub walked-sheet-sums : WalkedSheetSums
+walked-sheet-sums ks = subst (HoldsSums (sheetAfter newSheet (map (λ k. reached k .walk) ks))) (added-outlines ks newSheet) (sheet-sums (map (λ k. reached k .walk) ks))

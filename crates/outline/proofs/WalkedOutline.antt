@@ -3,26 +3,26 @@
 use mathlib.Core.Path.{_≡_, refl, sym, _∙_, ap, subst}
 use mathlib.Core.Bool.{true, false, cond, true≢false}
 use mathlib.Core.List.{List, [], _∷_, _++_, map}
-use mathlib.Core.Logic.{_≢_}
 use Prim.Native.Nat.{ℕ, _≤_, _<_, zero-le}
 use native.Mathlib.Omega.{arith}
 use lib.Dec.{eqb}
 use lib.ListN.{length, length-append}
 use borrow.Author.Tests.{ne-eqb}
 use Rattle.outline.specs.declared.Position.{Position}
-use Rattle.outline.specs.declared.AffineMap.{AffineMap}
 use Rattle.outline.specs.declared.Walk.{Walk}
 use Rattle.outline.specs.declared.Sheet.{Sheet}
 use Rattle.outline.specs.EdgeSums.{openEdges, sumOver, outlineTotals, outlineBounds, exceed}
-use Rattle.outline.specs.ListCall.{accepted, points, numbers, outside, anyOutside, listCall}
-use Rattle.outline.specs.MapCall.{moved, disallowed}
-use Rattle.outline.specs.Pieces.{Cut, piecesOf, Direction, placed}
+use Rattle.outline.specs.ListCall.{accepted, numbers, outside, anyOutside}
+use Rattle.outline.specs.MapCall.{moved}
+use Rattle.outline.specs.Pieces.{piecesOf, placed}
 use Rattle.outline.specs.WalkCalls.{EndOutcome, closedTotals, extended, unsoundWalk, endCall}
-use Rattle.outline.specs.CallLists.{Call, numberOf, walkAfter, unsoundSheetIn, pointsWith, Trace, next, after, from, walkOf}
+use Rattle.outline.specs.CallLists.{Call, numberOf, walkAfter, pointsWith, Trace, next, after, walkOf, Walking, reached}
+use Rattle.outline.specs.PiecesAddUp.{AddUpMoved}
+use Rattle.outline.specs.WalkedOutline.{WalkedOutline, WalkedPieces}
 use Rattle.outline.proofs.Every.{All, all-append}
 use Rattle.outline.proofs.IndexLaws.{points-numbers}
 use Rattle.outline.proofs.Limits.{Inside, outside-not, Outline, accepts-points, accepted-within}
-use Rattle.outline.proofs.PiecesAddUp.{PiecesAddUp, pieces-add-up}
+use Rattle.outline.proofs.PiecesAddUp.{pieces-add-up}
 use Rattle.outline.proofs.CallCases as Case
 use Rattle.outline.proofs.CallCases.{Taken, begun, extends, ends, abandoned}
 use Rattle.outline.proofs.Refusals.{not-28}
@@ -88,41 +88,26 @@ accepted-end {r} k s = go (endCall (r .walk) s) (Case.end-case (r .walk) s)
 
 -- ---- the theorem
 
--- What is claimed of a walk, and of the points of the accepted point calls since the last accepted begin.
-pub record WalkedOutline (r : Trace) : Type 0 where
-  -- 28 takes the walk,
-  pub sound : unsoundWalk (r .walk) ≡ false
-  -- so no call on it answers 28, but an end with a sheet that 28 refuses.
-  pub never-28 : (c : Call) → unsoundSheetIn c ≡ false → numberOf (r .walk) c ≢ 28
-  -- While the walk is open, it is the walk of the points: their number, their ends and the sums over their edges so far.
-  pub is-walk : r .walk .is_open ≡ true → r .walk ≡ walkOf (r .points)
-  -- An accepted end answers the sums over all edges of the points, the closing edge among them,
-  pub edge-sums : (s : Sheet) → endCall (r .walk) s .number ≡ 0 → endCall (r .walk) s .totals ≡ outlineTotals (r .points)
-  -- which is what the list call answers for the points.
-  pub same : (s : Sheet) → endCall (r .walk) s .number ≡ 0 → listCall (numbers (r .points)) ≡ accepted (endCall (r .walk) s .totals)
-
--- After every list of calls on any walk marked closed, accepted or refused, the ends with any sheets.
-pub walked-outline : (w : Walk) → w .is_open ≡ false → (calls : List Call) → WalkedOutline (after (from w) calls)
-walked-outline w h calls =
-    let r = after (from w) calls in
-    let k = kept-after calls (not-open h) in
+pub walked-outline : WalkedOutline
+walked-outline k =
+    let r = reached k in
+    let kept = kept-after (k .calls) (not-open (k .is-closed)) in
     record {
-      sound = kept-sound k;
-      never-28 = not-28 (r .walk) (kept-sound k);
-      is-walk = kept-walk k;
-      edge-sums = λ s e. accepted-end k s e .1;
-      same = λ s e. let o = accepted-end k s e in accepts-points (r .points) (o .0) ∙ ap accepted (sym (o .1));
+      sound = kept-sound kept;
+      never-28 = not-28 (r .walk) (kept-sound kept);
+      is-walk = kept-walk kept;
+      edge-sums = λ s e. accepted-end kept s e .1;
+      same = λ s e. let o = accepted-end kept s e in accepts-points (r .points) (o .0) ∙ ap accepted (sym (o .1));
     }
 
-module _ (w : Walk) (h : w .is_open ≡ false) (calls : List Call) (s : Sheet) where
-  -- The totals of an accepted end are within the outline bounds,
-  pub walked-within : (let r = after (from w) calls in endCall (r .walk) s .number ≡ 0 → exceed outlineBounds (endCall (r .walk) s .totals) ≡ false)
-  walked-within e = accepted-within (numbers (after (from w) calls .points)) (endCall (after (from w) calls .walk) s .totals) (walked-outline w h calls .same s e)
+-- The totals of an accepted end are within the outline bounds,
+pub walked-within : (k : Walking) (s : Sheet) → endCall (reached k .walk) s .number ≡ 0 → exceed outlineBounds (endCall (reached k .walk) s .totals) ≡ false
+walked-within k s e = accepted-within (numbers (reached k .points)) (endCall (reached k .walk) s .totals) (walked-outline k .same s e)
 
-  -- and demand 3 holds of them and of the points, whole.
-  pub walked-pieces : (let r = after (from w) calls in endCall (r .walk) s .number ≡ 0 → (cuts : List Cut) (start : ℕ → ℕ) (d : Direction) (m : AffineMap) → disallowed m ≡ false → anyOutside (moved m (r .points)) ≡ false → PiecesAddUp m d (endCall (r .walk) s .totals) (map (moved m) (placed d start (piecesOf (r .points) cuts))))
-  walked-pieces e cuts start d m allowed bounds =
-      let r = after (from w) calls in
-      let q = points-numbers (r .points) in
-      subst (λ ps. PiecesAddUp m d (endCall (r .walk) s .totals) (map (moved m) (placed d start (piecesOf ps cuts)))) q
-      (pieces-add-up (numbers (r .points)) (endCall (r .walk) s .totals) (walked-outline w h calls .same s e) cuts start d m allowed (ap (λ ps. anyOutside (moved m ps)) q ∙ bounds))
+-- and demand 3 holds of them and of the points, whole.
+pub walked-pieces : WalkedPieces
+walked-pieces k s e cuts start direction m allowed bounds =
+    let r = reached k in
+    let q = points-numbers (r .points) in
+    subst (λ ps. AddUpMoved m direction (endCall (r .walk) s .totals) (map (moved m) (placed direction start (piecesOf ps cuts)))) q
+    (pieces-add-up (numbers (r .points)) (endCall (r .walk) s .totals) (walked-outline k .same s e) cuts start direction m allowed (ap (λ ps. anyOutside (moved m ps)) q ∙ bounds))

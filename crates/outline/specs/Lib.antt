@@ -5,3 +5,7 @@ pub mod Pieces
 pub mod OtherTerms
 pub mod WalkCalls
 pub mod CallLists
+pub mod PiecesAddUp
+pub mod WalkedOutline
+pub mod EveryOutline
+pub mod SheetSums

@@ -15,10 +15,12 @@ use Rattle.outline.specs.Pieces.{sumOf}
 use Rattle.outline.specs.WalkCalls.{closed, newSheet, EndOutcome, endCall}
 use Rattle.outline.specs.CallLists as Calls
 use Rattle.outline.specs.CallLists.{Call, Trace, walkAfter, next, after, from, sheetAfter, addedBy}
+use Rattle.outline.specs.SheetSums.{HoldsSums}
+use Rattle.outline.specs.WalkedOutline.{IsOutline}
 use Rattle.outline.proofs.CallCases as Case
 use Rattle.outline.proofs.CallCases.{EndCase, end-case}
-use Rattle.outline.proofs.WalkedOutline.{WalkedOutline, walked-outline}
-use Rattle.outline.proofs.SheetSums.{SheetSums, sheet-sums}
+use Rattle.outline.proofs.WalkedOutline.{walked-outline}
+use Rattle.outline.proofs.SheetSums.{sheet-sums}
 use Rattle.forms.specs.Grammar.{Form, begin, end, abandon, point, other, formOf}
 use Rattle.printing.specs.Output.{outlineLine, sheetLine}
 use Rattle.text.specs.Program.{Line, Carried, carriedWalk, carriedEnd, carryOut, linesFrom, program}
@@ -138,15 +140,15 @@ pointsSince ls = after (from closed) (callsOf closed newSheet ls) .points
 abbrev pub outlinesIn : List Line → List Totals
 outlinesIn ls = outlinesOf closed newSheet ls
 
-lines-sums : (ls : List Line) → SheetSums (afterLines ls .sheet) (outlinesIn ls)
-lines-sums ls = subst₂ SheetSums (lines-sheet ls closed newSheet) (lines-added ls closed newSheet) (sheet-sums (endWalks closed newSheet ls))
+lines-sums : (ls : List Line) → HoldsSums (afterLines ls .sheet) (outlinesIn ls)
+lines-sums ls = subst₂ HoldsSums (lines-sheet ls closed newSheet) (lines-added ls closed newSheet) (sheet-sums (endWalks closed newSheet ls))
 
 -- S: the sheet's count is the number of the O lines, and its totals are the sums of theirs.
 pub sheet-law : (ls : List Line) → afterLines ls .sheet ≡ record { count = length (outlinesIn ls); totals = sumOf (outlinesIn ls) }
 sheet-law ls = let sums = lines-sums ls in λ i. record { count = sums .count i; totals = sums .totals i }
 
 -- What an accepted end prints.
-end-prints : (n : ℕ) (r : Trace) (s : Sheet) → WalkedOutline r → endCall (r .walk) s .number ≡ 0 → (let answer = listCall (numbers (r .points)) in (answer .number ≡ 0) × (carryOut n end (r .walk) s .output ≡ outlineLine (s .count + 1) (length (r .points)) (answer .totals)))
+end-prints : (n : ℕ) (r : Trace) (s : Sheet) → IsOutline r → endCall (r .walk) s .number ≡ 0 → (let answer = listCall (numbers (r .points)) in (answer .number ≡ 0) × (carryOut n end (r .walk) s .output ≡ outlineLine (s .count + 1) (length (r .points)) (answer .totals)))
 unfolding carryOut carriedEnd
 end-prints n r s o z = go (endCall (r .walk) s) (end-case (r .walk) s) z (o .same s z)
   where
@@ -161,7 +163,7 @@ outline-law before l e =
     let c = afterLines before in
     let r = after (from closed) (callsOf closed newSheet before) in
     let walk : r .walk ≡ c .walk = lines-walk before (from closed) newSheet in
-    rw (e, ← lines-sums before .count, ← walk) (end-prints (l .number) r (c .sheet) (walked-outline closed refl (callsOf closed newSheet before)))
+    rw (e, ← lines-sums before .count, ← walk) (end-prints (l .number) r (c .sheet) (walked-outline (record { start = closed; is-closed = refl; calls = callsOf closed newSheet before })))
 
 -- The whole output: S has the number and the sums of the O lines of the lines within the limits.
 pub program-sheet : (input : List ℕ) → (let ls = linesFrom 0 0 [] input in let within = linesWithin ls in program input ≡ afterLines within .output ++ lineBeyond ls ++ sheetLine (record { count = length (outlinesIn within); totals = sumOf (outlinesIn within) }))
@@ -171,6 +173,6 @@ program-sheet input =
     program-parts input ∙ ap (λ s. afterLines within .output ++ lineBeyond ls ++ sheetLine s) (sheet-law within)
 
 -- The totals that an accepted end counts for S are those of its O line.
-pub line-outline : (r : Trace) (s : Sheet) → WalkedOutline r → endCall (r .walk) s .number ≡ 0 → outlineOf end (r .walk) s ≡ listCall (numbers (r .points)) .totals ∷ []
+pub line-outline : (r : Trace) (s : Sheet) → IsOutline r → endCall (r .walk) s .number ≡ 0 → outlineOf end (r .walk) s ≡ listCall (numbers (r .points)) .totals ∷ []
 unfolding outlineOf
 line-outline r s o z = rw (z, o .same s z)
