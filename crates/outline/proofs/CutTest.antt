@@ -1,12 +1,13 @@
--- What is known of a cut that can be made: its piece exists, its positions lie in it and at least two apart round it.
+-- Which cuts can be made: those of a piece that exists, between two positions in it that are at least two apart round it; and no others.
 use mathlib.Core.Path.{_≡_, refl}
 use mathlib.Core.Bool.{Bool, true, false, not, _&&_}
 use mathlib.Core.List.{List, []}
+use mathlib.Core.Logic.{_≢_}
 use Prim.Native.Nat.{ℕ, suc, _+_, _-_, _<_, _≤_}
 use native.Mathlib.Omega.{arith}
 use lib.Dec.{ltb, eqb}
 use lib.ListN.{length, getD}
-use borrow.Author.Tests.{ltb-true, eqb-false, not-true}
+use borrow.Author.Tests.{ltb-true, lt-ltb, eqb-true, eqb-false, ne-eqb, not-true}
 use Rattle.outline.specs.Pieces.{Piece, Cut, lower, higher, neighbours, canCut}
 use Rattle.integers.proofs.Flags.{or-left, or-right, and-left, and-right}
 
@@ -46,3 +47,14 @@ made pieces c e =
       ltb-true (c .piece) (length pieces) (and-left exists one e2),
       record { apart = h-apart; inside = h-inside; rest = enough-left n (lower c) (higher c) h-apart h-inside (or-right beside closing apart-test) },
     )
+
+-- The other way round, in document 01's words: the piece exists, both positions lie in it, and they are neither equal nor neighbours, last and first included.
+pub can-cut : (pieces : List Piece) (c : Cut) → (let n = length (getD pieces (c .piece) []) in c .piece < length pieces → c .one < n → c .other < n → c .one ≢ c .other → suc (lower c) ≢ higher c → (lower c ≡ 0 → suc (higher c) ≢ n) → canCut pieces c ≡ true)
+unfolding canCut neighbours
+can-cut pieces c exists one other distinct apart apart-round =
+    let n = length (getD pieces (c .piece) []) in
+    rw (lt-ltb (c .piece) (length pieces) exists, lt-ltb (c .one) n one, lt-ltb (c .other) n other, ne-eqb (c .one) (c .other) distinct, ne-eqb (suc (lower c)) (higher c) apart, not-closing (lower c) (higher c) n (eqb (lower c) 0) refl apart-round)
+  where
+    not-closing : (l h n : ℕ) (b : Bool) → eqb l 0 ≡ b → (l ≡ 0 → suc h ≢ n) → (b && eqb (suc h) n) ≡ false
+    not-closing l h n true e f = ne-eqb (suc h) n (f (eqb-true l 0 e))
+    not-closing l h n false e f = refl

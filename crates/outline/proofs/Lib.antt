@@ -23,3 +23,5 @@ pub mod WalkedAgain
 pub mod EveryOutline
 pub mod SheetSums
 pub mod CornerCases
+pub mod PiecesUses
+pub mod WalkedUses

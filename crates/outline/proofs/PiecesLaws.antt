@@ -2,7 +2,9 @@
 use mathlib.Core.Path.{_≡_, refl, sym, _∙_, ap, ap₂, subst}
 use mathlib.Core.Bool.{false}
 use mathlib.Core.List.{List, [], _∷_, map, reverse, append-nil, List·Memᴰ, List·Memᴰ·head}
-use Prim.Native.Nat.{ℕ}
+use Prim.Native.Nat.{ℕ, zero, suc, _<_}
+use native.Mathlib.Omega.{arith}
+use lib.ListN.{length, getD}
 use lib.IntN.{ℤ, pos}
 use Rattle.integers.proofs.Ring.{ring, quote}
 use Rattle.outline.specs.declared.Position.{Position}
@@ -126,3 +128,12 @@ module _ (zs : List ℤ) (t : Totals) (taken : listCall zs ≡ accepted t) where
   one-piece cuts p k s w m allowed bounds =
       let q = points-numbers p in
       subst (λ l. OnePiece m w (totalsOf p) (moved m (startAt s (walked w l)))) q (no-cut (numbers p) (totalsOf p) (cuts-only cuts .list-accepts p k) s w m allowed (ap (λ l. anyOutside (moved m l)) q ∙ bounds))
+
+-- ---- starts
+
+-- Each piece is walked and started by itself, piece k from start k.
+pub placed-at : (w : Direction) (start : ℕ → ℕ) (pieces : List Piece) (k : ℕ) → k < length pieces → getD (placed w start pieces) k [] ≡ startAt (start k) (walked w (getD pieces k []))
+unfolding placed
+placed-at w start [] k h = absurd (omega arith)
+placed-at w start (p ∷ pieces) zero h = refl
+placed-at w start (p ∷ pieces) (suc k) h = placed-at w (λ n. start (suc n)) pieces k (omega arith)
