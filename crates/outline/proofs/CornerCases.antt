@@ -2,25 +2,32 @@
 use mathlib.Core.Path.{_≡_, refl}
 use mathlib.Core.Bool.{true, false}
 use mathlib.Core.List.{[], _∷_, map}
-use Prim.Native.Nat.{ℕ}
 use lib.IntN.{ℤ, pos, negsuc}
-use Rattle.outline.specs.declared.Position.{Position}
 use Rattle.outline.specs.declared.Totals.{Totals}
 use Rattle.outline.specs.declared.Walk.{Walk}
-use Rattle.outline.specs.declared.Sheet.{Sheet}
 use Rattle.outline.specs.EdgeSums.{zeros, over, exceed}
 use Rattle.outline.specs.ListCall.{points, outside, anyOutside, wrongLength, listCall}
-use Rattle.outline.specs.WalkCalls.{origin, opened, closed, newSheet, extended, unsoundWalk, unsoundSheet, refusedWalk, refusedEnd, beginCall, pointCall, endCall, abandonCall}
+use Rattle.outline.specs.WalkCalls.{origin, opened, closed, newSheet, edgeTotals, extended, unsoundWalk, unsoundSheet, refusedWalk, refusedEnd, beginCall, pointCall, endCall, abandonCall}
+use Rattle.outline.proofs.WorkedInputs.{at, area, openWith, openOf, leftover, sheetOf}
 
-abbrev at : ℤ → ℤ → Position
-at x y = record { x = x; y = y }
+-- ---- one edge, from (2,3) to (7,11), whose cross product is 1: the terms of the table, which decide for a walk still open
 
--- A2 alone
-abbrev area : ℕ → Totals
-area a = record { a2 = pos a; x6 = pos 0; y6 = pos 0; xx12 = pos 0; xy24 = pos 0; yy12 = pos 0 }
+one-edge : edgeTotals (at (pos 2) (pos 3)) (at (pos 7) (pos 11)) ≡ record { a2 = pos 1; x6 = pos 9; y6 = pos 14; xx12 = pos 67; xy24 = pos 209; yy12 = pos 163 }
+one-edge = refl
 
-abbrev openWith : ℕ → Position → Position → Totals → Walk
-openWith n first last t = record { is_open = true; count = n; first = first; last = last; totals = t }
+-- ---- a walk just begun, one that is over, and a new sheet, field by field
+
+abbrev nothing : Totals
+nothing = record { a2 = pos 0; x6 = pos 0; y6 = pos 0; xx12 = pos 0; xy24 = pos 0; yy12 = pos 0 }
+
+record Fresh : Type 0 where
+  begun : beginCall closed .walk ≡ record { is_open = true; count = 0; first = at (pos 0) (pos 0); last = at (pos 0) (pos 0); totals = nothing }
+  ended : abandonCall opened .walk ≡ record { is_open = false; count = 0; first = at (pos 0) (pos 0); last = at (pos 0) (pos 0); totals = nothing }
+  sheet : newSheet ≡ record { count = 0; totals = nothing }
+
+fresh : Fresh
+unfolding over exceed unsoundWalk beginCall abandonCall
+fresh = record { begun = refl; ended = refl; sheet = refl }
 
 -- ---- lists: 2 comes before 1, and the least i32 is outside the limits
 
@@ -32,9 +39,6 @@ unfolding points over outside anyOutside wrongLength listCall
 lists = refl
 
 -- ---- a walk marked closed with other fields: 28 does not look at it
-
-abbrev leftover : Walk
-leftover = record { is_open = false; count = 7; first = at (pos 1) (pos 2); last = origin; totals = area 5 }
 
 record ClosedWalk : Type 0 where
   point : pointCall leftover (at (pos 1) (pos 1)) ≡ refusedWalk 21 leftover
@@ -48,15 +52,9 @@ closed-walk = record { point = refl; end = refl; abandon = refl; begin = refl }
 
 -- ---- the sheet's half of 28 comes before 21; a sheet's count and totals need not agree
 
-abbrev fullSheet : Sheet
-fullSheet = record { count = 65; totals = zeros }
-
-abbrev uncounted : Sheet
-uncounted = record { count = 0; totals = area 5 }
-
 record Sheets : Type 0 where
-  too-many : endCall closed fullSheet ≡ refusedEnd 28 closed fullSheet
-  taken : unsoundSheet uncounted ≡ false
+  too-many : endCall closed (sheetOf 65 zeros) ≡ refusedEnd 28 closed (sheetOf 65 zeros)
+  taken : unsoundSheet (sheetOf 0 (area 5)) ≡ false
 
 sheets : Sheets
 unfolding over exceed outside unsoundWalk unsoundSheet endCall
@@ -72,7 +70,7 @@ record NoPoints : Type 0 where
   begin : beginCall pointless ≡ refusedWalk 22 pointless
   end : endCall pointless newSheet ≡ refusedEnd 24 pointless newSheet
   abandon : abandonCall pointless ≡ record { number = 0; walk = closed }
-  area-without-points : pointCall (openWith 0 origin origin (area 1)) origin .number ≡ 28
+  area-without-points : pointCall (openOf 0 (area 1)) origin .number ≡ 28
 
 no-points : NoPoints
 unfolding over exceed outside extended unsoundWalk unsoundSheet beginCall pointCall endCall abandonCall
@@ -84,12 +82,12 @@ record HandedIn : Type 0 where
   -- 28 asks for no agreement of first, last and totals, only for the share of the points
   one-point : pointCall (openWith 1 origin (at (pos 9) (pos 9)) (area 8_000_000)) origin .number ≡ 0
   above-the-share : pointCall (openWith 1 origin (at (pos 9) (pos 9)) (area 8_000_001)) origin .number ≡ 28
-  three-points : endCall (openWith 3 origin origin (area 24_000_000)) newSheet .totals ≡ area 24_000_000
-  one-more : endCall (openWith 3 origin origin (area 24_000_001)) newSheet .number ≡ 28
+  three-points : endCall (openOf 3 (area 24_000_000)) newSheet .totals ≡ area 24_000_000
+  one-more : endCall (openOf 3 (area 24_000_001)) newSheet .number ≡ 28
   -- an end may answer more than an outline's bound
   large : endCall (openWith 1024 (at (pos 2000) (pos 2000)) (at (pos 2000) (negsuc 1999)) (area 8_192_000_000)) newSheet .totals .a2 ≡ pos 8_200_000_000
   -- an open walk that 28 refuses cannot be abandoned
-  too-long : abandonCall (openWith 1025 origin origin zeros) ≡ refusedWalk 28 (openWith 1025 origin origin zeros)
+  too-long : abandonCall (openOf 1025 zeros) ≡ refusedWalk 28 (openOf 1025 zeros)
 
 handed-in : HandedIn
 unfolding over exceed outside extended unsoundWalk unsoundSheet pointCall endCall abandonCall

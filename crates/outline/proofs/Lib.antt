@@ -22,6 +22,9 @@ pub mod WalkedOutline
 pub mod WalkedAgain
 pub mod EveryOutline
 pub mod SheetSums
+pub mod WorkedInputs
+pub mod WorkedLimits
+pub mod WorkedOrders
 pub mod CornerCases
 pub mod PiecesUses
 pub mod WalkedUses

@@ -4,7 +4,6 @@ use mathlib.Core.Bool.{false}
 use mathlib.Core.List.{List, [], _∷_, map, List·Memᴰ}
 use Prim.Native.Nat.{ℕ, zero, suc}
 use lib.IntN.{ℤ, pos, negsuc}
-use Rattle.outline.specs.declared.Position.{Position}
 use Rattle.outline.specs.declared.Totals.{Totals}
 use Rattle.outline.specs.declared.AffineMap.{AffineMap}
 use Rattle.outline.specs.EdgeSums.{openEdges, edges, sumOver, over, exceed, zeros, negated}
@@ -12,10 +11,8 @@ use Rattle.outline.specs.ListCall.{accepted, points, numbers, outside, a
 use Rattle.outline.specs.MapCall.{moved, disallowed, mapCall}
 use Rattle.outline.specs.Pieces.{Piece, Cut, neighbours, canCut, cutOnce, cutAll, piecesOf, startAt, forwards, backwards, walked, placed, totalsOf, sumOf, directed}
 use Rattle.outline.specs.PiecesAddUp.{AddUpMoved}
+use Rattle.outline.proofs.WorkedInputs.{at}
 use Rattle.outline.proofs.PiecesAddUp.{pieces-add-up}
-
-abbrev pub at : ℤ → ℤ → Position
-at x y = record { x = x; y = y }
 
 -- ---- an outline, its pieces and their starts
 

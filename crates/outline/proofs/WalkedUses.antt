@@ -1,6 +1,6 @@
 -- The statements on walks and sheets used at two walks and one sheet, so that weaker statements are refused here.
 use mathlib.Core.Path.{_≡_, refl, sym, _∙_, ap}
-use mathlib.Core.Bool.{true, false}
+use mathlib.Core.Bool.{false}
 use mathlib.Core.List.{List, [], _∷_, map}
 use mathlib.Core.Logic.{_≢_}
 use native.Mathlib.Omega.{arith}
@@ -8,7 +8,6 @@ use lib.ListN.{length}
 use lib.IntN.{pos, negsuc}
 use Rattle.outline.specs.declared.AffineMap.{AffineMap}
 use Rattle.outline.specs.declared.Walk.{Walk}
-use Rattle.outline.specs.declared.Sheet.{Sheet}
 use Rattle.outline.specs.EdgeSums.{openEdges, edges, sumOver, over, exceed, zeros, negated, outlineTotals}
 use Rattle.outline.specs.ListCall.{accepted, points, numbers, outside, anyOutside, listCall}
 use Rattle.outline.specs.MapCall.{moved, mapCall}
@@ -17,7 +16,8 @@ use Rattle.outline.specs.WalkCalls.{origin, closed, newSheet, extended, 
 use Rattle.outline.specs.CallLists.{begin, point, end, abandon, numberOf, walkAfter, unsoundSheetIn, pointsWith, next, after, walkOf, sheetAfter, addedBy, Walking, reached, outlinesOn}
 use Rattle.outline.specs.PiecesAddUp.{AddUpMoved}
 use Rattle.outline.specs.EveryOutline.{Room, Walkable}
-use Rattle.outline.proofs.PiecesUses.{at, pentagon, pentagonTotals, pentagon-taken, cuts, starts, flat, flat-allowed, flat-bounds, mirror, mirrored, mirror-allowed, mirror-bounds, mirror-answer}
+use Rattle.outline.proofs.WorkedInputs.{at, openOf, leftover, sheetOf}
+use Rattle.outline.proofs.PiecesUses.{pentagon, pentagonTotals, pentagon-taken, cuts, starts, flat, flat-allowed, flat-bounds, mirror, mirrored, mirror-allowed, mirror-bounds, mirror-answer}
 use Rattle.outline.proofs.WalkedOutline.{walked-outline, walked-pieces}
 use Rattle.outline.proofs.WalkedAgain.{walked-again}
 use Rattle.outline.proofs.SheetSums.{sheet-sums, walked-sheet-sums}
@@ -25,23 +25,13 @@ use Rattle.outline.proofs.EveryOutline.{every-outline}
 
 -- ---- two walks
 
--- Marked closed, with fields that no call leaves.
-abbrev leftover : Walk
-leftover = record { is_open = false; count = 7; first = at (pos 1) (pos 2); last = origin; totals = pentagonTotals }
-
-abbrev fullSheet : Sheet
-fullSheet = record { count = 64; totals = zeros }
-
-abbrev unsound : Sheet
-unsound = record { count = 65; totals = zeros }
-
 -- The pentagon, with a refused call of each kind and a walk given up before it.
 abbrev first : Walking
 first =
     record {
       start = leftover;
       is-closed = refl;
-      calls = point origin ∷ end newSheet ∷ abandon ∷ begin ∷ point (at (pos 9) (pos 9)) ∷ abandon ∷ begin ∷ begin ∷ end newSheet ∷ point (at (pos 2001) (pos 0)) ∷ point (at (pos 0) (pos 0)) ∷ point (at (pos 4) (pos 0)) ∷ point (at (pos 5) (pos 2)) ∷ end unsound ∷ point (at (pos 2) (pos 4)) ∷ point (at (pos 0) (pos 3)) ∷ end fullSheet ∷ [];
+      calls = point origin ∷ end newSheet ∷ abandon ∷ begin ∷ point (at (pos 9) (pos 9)) ∷ abandon ∷ begin ∷ begin ∷ end newSheet ∷ point (at (pos 2001) (pos 0)) ∷ point (at (pos 0) (pos 0)) ∷ point (at (pos 4) (pos 0)) ∷ point (at (pos 5) (pos 2)) ∷ end (sheetOf 65 zeros) ∷ point (at (pos 2) (pos 4)) ∷ point (at (pos 0) (pos 3)) ∷ end (sheetOf 64 zeros) ∷ [];
     }
 
 -- The same walked backwards from another start, moved by `mirror`.
@@ -71,9 +61,9 @@ second-ends = refl
 
 -- ---- walked outlines
 
-never-28 : numberOf (reached first .walk) (end fullSheet) ≢ 28
+never-28 : numberOf (reached first .walk) (end (sheetOf 64 zeros)) ≢ 28
 unfolding unsoundSheetIn unsoundSheet exceed over
-never-28 = walked-outline first .never-28 (end fullSheet) refl
+never-28 = walked-outline first .never-28 (end (sheetOf 64 zeros)) refl
 
 is-walk : reached first .walk ≡ walkOf (reached first .points)
 unfolding over exceed outside extended unsoundWalk unsoundSheet beginCall pointCall endCall abandonCall numberOf walkAfter pointsWith next after
@@ -108,11 +98,8 @@ second-totals = ap (λ r. r .totals) (sym mirrored-again ∙ ap (mapCall mirror)
 
 -- ---- a sheet: the second of four ends is refused, and the last, with a walk filled in by hand, is not
 
-abbrev filledIn : Walk
-filledIn = record { is_open = true; count = 3; first = origin; last = origin; totals = pentagonTotals }
-
 abbrev ended : List Walk
-ended = reached first .walk ∷ closed ∷ reached second .walk ∷ filledIn ∷ []
+ended = reached first .walk ∷ closed ∷ reached second .walk ∷ openOf 3 pentagonTotals ∷ []
 
 added : addedBy newSheet ended ≡ pentagonTotals ∷ negated mirrored ∷ pentagonTotals ∷ []
 unfolding over exceed outside extended unsoundWalk unsoundSheet beginCall pointCall endCall abandonCall numberOf walkAfter pointsWith next after addedBy
@@ -143,12 +130,9 @@ walked-totals = walked-sheet-sums walks .totals ∙ ap (λ os. sumOf (map outlin
 
 -- ---- the pentagon can be walked, also from the walk with leftover fields, and into the last place of a sheet
 
-abbrev lastPlace : Sheet
-lastPlace = record { count = 63; totals = zeros }
-
-last-place : Room lastPlace pentagonTotals
+last-place : Room (sheetOf 63 zeros) pentagonTotals
 unfolding unsoundSheet exceed over
 last-place = record { sound = refl; count = omega arith; totals = refl }
 
-pentagon-walked : Walkable leftover (points pentagon) lastPlace pentagonTotals
-pentagon-walked = every-outline pentagon pentagonTotals pentagon-taken leftover refl lastPlace last-place
+pentagon-walked : Walkable leftover (points pentagon) (sheetOf 63 zeros) pentagonTotals
+pentagon-walked = every-outline pentagon pentagonTotals pentagon-taken leftover refl (sheetOf 63 zeros) last-place

@@ -1,0 +1,43 @@
+-- Positions, totals, walks and sheets that the worked facts are computed at.
+use mathlib.Core.Bool.{true, false}
+use mathlib.Core.List.{List, [], _∷_}
+use Prim.Native.Nat.{ℕ}
+use lib.IntN.{ℤ, pos}
+use Rattle.outline.specs.declared.Position.{Position}
+use Rattle.outline.specs.declared.Totals.{Totals}
+use Rattle.outline.specs.declared.Sizes.{Sizes}
+use Rattle.outline.specs.declared.Walk.{Walk}
+use Rattle.outline.specs.declared.Sheet.{Sheet}
+use Rattle.outline.specs.WalkCalls.{origin}
+
+abbrev pub at : ℤ → ℤ → Position
+at x y = record { x = x; y = y }
+
+-- A2 alone.
+abbrev pub area : ℕ → Totals
+area a = record { a2 = pos a; x6 = pos 0; y6 = pos 0; xx12 = pos 0; xy24 = pos 0; yy12 = pos 0 }
+
+-- Each of the six alone, as f makes it of a size.
+abbrev pub eachAlone : (ℕ → ℤ) → Sizes → List Totals
+eachAlone f b =
+    record { a2 = f (b .a2); x6 = pos 0; y6 = pos 0; xx12 = pos 0; xy24 = pos 0; yy12 = pos 0 }
+    ∷ record { a2 = pos 0; x6 = f (b .x6); y6 = pos 0; xx12 = pos 0; xy24 = pos 0; yy12 = pos 0 }
+    ∷ record { a2 = pos 0; x6 = pos 0; y6 = f (b .y6); xx12 = pos 0; xy24 = pos 0; yy12 = pos 0 }
+    ∷ record { a2 = pos 0; x6 = pos 0; y6 = pos 0; xx12 = f (b .xx12); xy24 = pos 0; yy12 = pos 0 }
+    ∷ record { a2 = pos 0; x6 = pos 0; y6 = pos 0; xx12 = pos 0; xy24 = f (b .xy24); yy12 = pos 0 }
+    ∷ record { a2 = pos 0; x6 = pos 0; y6 = pos 0; xx12 = pos 0; xy24 = pos 0; yy12 = f (b .yy12) }
+    ∷ []
+
+abbrev pub openWith : ℕ → Position → Position → Totals → Walk
+openWith n first last t = record { is_open = true; count = n; first = first; last = last; totals = t }
+
+-- An open walk of n points that are all the origin.
+abbrev pub openOf : ℕ → Totals → Walk
+openOf n t = openWith n origin origin t
+
+-- Marked closed, with fields that no call leaves.
+abbrev pub leftover : Walk
+leftover = record { is_open = false; count = 7; first = at (pos 1) (pos 2); last = origin; totals = area 5 }
+
+abbrev pub sheetOf : ℕ → Totals → Sheet
+sheetOf n t = record { count = n; totals = t }

@@ -1,0 +1,150 @@
+-- Both sides of every limit of document 01 for lists, walks, sheets and maps, by computation from the definitions.
+use mathlib.Core.Path.{_≡_, refl}
+use mathlib.Core.List.{List, [], _∷_, _++_, map}
+use Prim.Native.Nat.{ℕ, suc}
+use lib.IntN.{ℤ, pos, negsuc, negℤ}
+use lib.ListN.{replicate, drop}
+use Rattle.outline.specs.declared.Position.{Position}
+use Rattle.outline.specs.declared.Totals.{Totals}
+use Rattle.outline.specs.declared.Sizes.{Sizes}
+use Rattle.outline.specs.declared.AffineMap.{AffineMap}
+use Rattle.outline.specs.EdgeSums.{zeros, over, exceed}
+use Rattle.outline.specs.ListCall.{points, outside, anyOutside, wrongLength, listCall}
+use Rattle.outline.specs.MapCall.{disallowed, mapCall}
+use Rattle.outline.specs.WalkCalls.{origin, opened, closed, newSheet, extended, unsoundWalk, unsoundSheet, pointCall, endCall, abandonCall}
+use Rattle.outline.proofs.WorkedInputs.{at, eachAlone, openWith, openOf, sheetOf}
+
+-- ---- the six totals
+
+-- What a call answers where one of the six totals, the others being 0, is as large as its size, either sign, and where it is one larger.
+record Limited (number : Totals → ℕ) (b : Sizes) (taken refused : ℕ) : Type 0 where
+  greatest : map number (eachAlone pos b) ≡ replicate 6 taken
+  least : map number (eachAlone (λ n. negℤ (pos n)) b) ≡ replicate 6 taken
+  above : map number (eachAlone (λ n. pos (suc n)) b) ≡ replicate 6 refused
+  below : map number (eachAlone negsuc b) ≡ replicate 6 refused
+
+abbrev outlineSizes : Sizes
+outlineSizes = record { a2 = 8_192_000_000; x6 = 32_768_000_000_000; y6 = 32_768_000_000_000; xx12 = 98_304_000_000_000_000; xy24 = 196_608_000_000_000_000; yy12 = 98_304_000_000_000_000 }
+
+-- 3/1,024 of these.
+abbrev shareOfThree : Sizes
+shareOfThree = record { a2 = 24_000_000; x6 = 96_000_000_000; y6 = 96_000_000_000; xx12 = 288_000_000_000_000; xy24 = 576_000_000_000_000; yy12 = 288_000_000_000_000 }
+
+abbrev same : ℕ → Sizes
+same n = record { a2 = n; x6 = n; y6 = n; xx12 = n; xy24 = n; yy12 = n }
+
+-- 28 of a walk: the share of its points, 0 where it has none, the outline bounds where it has 1,024.
+share-of-3 : Limited (λ t. pointCall (openOf 3 t) origin .number) shareOfThree 0 28
+unfolding over exceed outside unsoundWalk pointCall
+share-of-3 = record { greatest = refl; least = refl; above = refl; below = refl }
+
+share-of-1024 : Limited (λ t. abandonCall (openOf 1024 t) .number) outlineSizes 0 28
+unfolding over exceed outside unsoundWalk abandonCall
+share-of-1024 = record { greatest = refl; least = refl; above = refl; below = refl }
+
+share-of-none : Limited (λ t. abandonCall (openOf 0 t) .number) (same 0) 0 28
+unfolding over exceed outside unsoundWalk abandonCall
+share-of-none = record { greatest = refl; least = refl; above = refl; below = refl }
+
+-- 28 of a sheet: 10^18. The walk is closed, so that 21 comes where 28 does not.
+sheet-limit : Limited (λ t. endCall closed (sheetOf 0 t) .number) (same 1_000_000_000_000_000_000) 21 28
+unfolding over exceed unsoundWalk unsoundSheet endCall
+sheet-limit = record { greatest = refl; least = refl; above = refl; below = refl }
+
+-- 4: the outline bounds, under the map that moves nothing.
+map-bounds : Limited (λ t. mapCall (record { a = pos 1; b = pos 0; g = pos 0; h = pos 1; e = pos 0; f = pos 0 }) t .number) outlineSizes 0 4
+unfolding over exceed disallowed mapCall
+map-bounds = record { greatest = refl; least = refl; above = refl; below = refl }
+
+-- 26: 1 more makes 10^18, which is taken, and 2 more are too many; likewise below zero.
+abbrev nearly : ℤ → Totals
+nearly z = record { a2 = z; x6 = z; y6 = z; xx12 = z; xy24 = z; yy12 = z }
+
+record Filled : Type 0 where
+  up : map (λ t. endCall (openOf 3 t) (sheetOf 0 (nearly (pos 999_999_999_999_999_999))) .number) (eachAlone pos (same 1) ++ eachAlone pos (same 2)) ≡ replicate 6 0 ++ replicate 6 26
+  down : map (λ t. endCall (openOf 3 t) (sheetOf 0 (nearly (negsuc 999_999_999_999_999_998))) .number) (eachAlone negsuc (same 0) ++ eachAlone negsuc (same 1)) ≡ replicate 6 0 ++ replicate 6 26
+
+filled : Filled
+unfolding over exceed outside unsoundWalk unsoundSheet endCall
+filled = record { up = refl; down = refl }
+
+-- 5: doubled, a second moment is 16 times as large: 10^18 is taken, and 10^18 + 16 is not. (A2, X6 and Y6 that 4 takes are never mapped so far.)
+abbrev doubled : (ℕ → ℤ) → ℕ → List ℕ
+doubled f n = map (λ t. mapCall (record { a = pos 2; b = pos 0; g = pos 0; h = pos 2; e = pos 0; f = pos 0 }) t .number) (drop 3 (eachAlone f (same n)))
+
+record Mapped : Type 0 where
+  up : doubled pos 62_500_000_000_000_000 ++ doubled pos 62_500_000_000_000_001 ≡ replicate 3 0 ++ replicate 3 5
+  down : doubled negsuc 62_499_999_999_999_999 ++ doubled negsuc 62_500_000_000_000_000 ≡ replicate 3 0 ++ replicate 3 5
+
+mapped : Mapped
+unfolding over exceed disallowed mapCall
+mapped = record { up = refl; down = refl }
+
+-- ---- coordinates
+
+-- 2,000 and one more, east, north, west and south.
+abbrev inside : List Position
+inside = at (pos 2000) (pos 0) ∷ at (pos 0) (pos 2000) ∷ at (negsuc 1999) (pos 0) ∷ at (pos 0) (negsuc 1999) ∷ []
+
+abbrev beyond : List Position
+beyond = at (pos 2001) (pos 0) ∷ at (pos 0) (pos 2001) ∷ at (negsuc 2000) (pos 0) ∷ at (pos 0) (negsuc 2000) ∷ []
+
+record Coordinates : Type 0 where
+  -- 1, of a point and of the first and the last point of a list
+  point : map (λ p. pointCall opened p .number) (inside ++ beyond) ≡ replicate 4 0 ++ replicate 4 1
+  first-listed : map (λ p. listCall (p .x ∷ p .y ∷ pos 0 ∷ pos 0 ∷ pos 1 ∷ pos 1 ∷ []) .number) (inside ++ beyond) ≡ replicate 4 0 ++ replicate 4 1
+  last-listed : map (λ p. listCall (pos 0 ∷ pos 0 ∷ pos 1 ∷ pos 1 ∷ p .x ∷ p .y ∷ []) .number) (inside ++ beyond) ≡ replicate 4 0 ++ replicate 4 1
+  -- 28, of the first and the last point of a walk
+  first-walked : map (λ p. abandonCall (openWith 1 p origin zeros) .number) (inside ++ beyond) ≡ replicate 4 0 ++ replicate 4 28
+  last-walked : map (λ p. abandonCall (openWith 1 origin p zeros) .number) (inside ++ beyond) ≡ replicate 4 0 ++ replicate 4 28
+
+coordinates : Coordinates
+unfolding over exceed points outside anyOutside wrongLength listCall extended unsoundWalk pointCall abandonCall
+coordinates = record { point = refl; first-listed = refl; last-listed = refl; first-walked = refl; last-walked = refl }
+
+-- ---- counts
+
+record Counts : Type 0 where
+  -- 2: lists of 2, 3, 1,024 and 1,025 points, and of 3 and 1,024 points with a number more
+  listed : map (λ n. listCall (replicate n (pos 0)) .number) (4 ∷ 6 ∷ 2048 ∷ 2050 ∷ 7 ∷ 2049 ∷ []) ≡ 2 ∷ 0 ∷ 0 ∷ 2 ∷ 2 ∷ 2 ∷ []
+  -- 23, and 28 of the walk
+  points-walked : map (λ n. pointCall (openOf n zeros) origin .number) (1023 ∷ 1024 ∷ 1025 ∷ []) ≡ 0 ∷ 23 ∷ 28 ∷ []
+  -- 24
+  points-ended : map (λ n. endCall (openOf n zeros) newSheet .number) (2 ∷ 3 ∷ 1024 ∷ []) ≡ 24 ∷ 0 ∷ 0 ∷ []
+  -- 25, and 28 of the sheet
+  outlines : map (λ n. endCall (openOf 3 zeros) (sheetOf n zeros) .number) (63 ∷ 64 ∷ 65 ∷ []) ≡ 0 ∷ 25 ∷ 28 ∷ []
+
+counts : Counts
+unfolding over exceed points outside anyOutside wrongLength listCall extended unsoundWalk unsoundSheet pointCall endCall
+counts = record { listed = refl; points-walked = refl; points-ended = refl; outlines = refl }
+
+-- ---- maps
+
+-- Each coefficient alone, then each shift alone.
+abbrev coefficients : ℤ → List AffineMap
+coefficients z =
+    record { a = z; b = pos 0; g = pos 0; h = pos 0; e = pos 0; f = pos 0 }
+    ∷ record { a = pos 0; b = z; g = pos 0; h = pos 0; e = pos 0; f = pos 0 }
+    ∷ record { a = pos 0; b = pos 0; g = z; h = pos 0; e = pos 0; f = pos 0 }
+    ∷ record { a = pos 0; b = pos 0; g = pos 0; h = z; e = pos 0; f = pos 0 }
+    ∷ []
+
+abbrev shifts : ℤ → List AffineMap
+shifts z =
+    record { a = pos 0; b = pos 0; g = pos 0; h = pos 0; e = z; f = pos 0 }
+    ∷ record { a = pos 0; b = pos 0; g = pos 0; h = pos 0; e = pos 0; f = z }
+    ∷ []
+
+abbrev numbersOf : List AffineMap → List ℕ
+numbersOf ms = map (λ m. mapCall m zeros .number) ms
+
+-- 3
+record Maps : Type 0 where
+  coefficient : numbersOf (coefficients (pos 2) ++ coefficients (negsuc 1)) ≡ replicate 8 0
+  coefficient-beyond : numbersOf (coefficients (pos 3) ++ coefficients (negsuc 2)) ≡ replicate 8 3
+  shift : numbersOf (shifts (pos 2000) ++ shifts (negsuc 1999)) ≡ replicate 4 0
+  shift-beyond : numbersOf (shifts (pos 2001) ++ shifts (negsuc 2000)) ≡ replicate 4 3
+
+maps : Maps
+unfolding over exceed disallowed mapCall
+maps = record { coefficient = refl; coefficient-beyond = refl; shift = refl; shift-beyond = refl }
