@@ -56,10 +56,10 @@ endAfter (suc n) = endCall (walkedSquare (endAfter n .walk)) (endAfter n .sheet)
 abbrev pub triangle : ℤ → List ℤ
 triangle x = x ∷ pos 0 ∷ pos 0 ∷ pos 2000 ∷ negℤ (pos 2000) ∷ pos 0 ∷ []
 
--- A run of row 0 from column 1,023 on.
-abbrev pub lastColumn : ℕ → Run
-lastColumn length = record { row = 0; first = 1023; length = length }
+-- A run of row 0.
+abbrev pub runOf : ℕ → ℕ → Run
+runOf first length = record { row = 0; first = first; length = length }
 
--- An open walk of 3 points with this A2, all else zero.
-abbrev pub handedIn : ℤ → Walk
-handedIn a2 = record { is_open = true; count = 3; first = origin; last = origin; totals = record { a2 = a2; x6 = pos 0; y6 = pos 0; xx12 = pos 0; xy24 = pos 0; yy12 = pos 0 } }
+-- An open walk of so many points with this A2, all else zero.
+abbrev pub handedIn : ℕ → ℤ → Walk
+handedIn count a2 = record { is_open = true; count = count; first = origin; last = origin; totals = record { a2 = a2; x6 = pos 0; y6 = pos 0; xx12 = pos 0; xy24 = pos 0; yy12 = pos 0 } }

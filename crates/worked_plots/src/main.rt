@@ -1,5 +1,5 @@
-// Document 01, "Plots worked by hand": the plots that carry no ✱, run through the proved functions. Each prints a row: label, number of the refusal
-// (0 where accepted) and values, parted by tabs, as second/worked.py prints them too. The plots marked ✱ are specs/Rows.antt.
+// Document 01, "Plots worked by hand": the plots that carry no ✱, run through the proved functions. Each prints a row: label, what was asked, number of
+// the refusal (0 where accepted) and values, parted by tabs, as second/worked.py prints them too. The plots marked ✱ are specs/Rows.antt.
 ghost use Prim.Native.Nat.{_≤_};
 
 mod figures;
@@ -15,51 +15,58 @@ use figures::map_totals;
 use figures::point_number;
 use figures::region_figures;
 use show::end_row;
+use show::show_coordinate;
+use show::show_integer;
 use show::show_label;
 use show::show_natural;
 use show::show_sums;
 use show::show_totals;
 
-// 2,000 is accepted, 2,001 is 1: number, six totals.
-fn limit_row(label: &[u8], x: i32) {
+// 2,000 is accepted, 2,001 is 1. Asked: a coordinate. Answered: number, six totals.
+fn limit_row(x: i32) {
     let answer = plots::triangle_totals(x);
-    show_label(label);
+    show_label(b"limit");
+    show_coordinate(x);
     show_natural(list_number(answer));
     show_totals(list_totals(answer));
     end_row();
 }
 
-// Point 1,025 is 23, but 1 if out of limits: number, count and six totals of the walk.
-fn point_row(label: &[u8], x: i32, y: i32) {
+// Point 1,025 is 23, but 1 if out of limits. Asked: its coordinates. Answered: number, count and six totals of the walk.
+fn point_row(x: i32, y: i32) {
     let reply = plots::point_1025(x, y);
     let answer = reply.answer;
     let walk = reply.walk;
     let totals = walk.totals;
-    show_label(label);
+    show_label(b"point-1025");
+    show_coordinate(x);
+    show_coordinate(y);
     show_natural(point_number(answer));
     show_natural(walk.count as u64);
     show_totals(totals);
     end_row();
 }
 
-// The square doubled by a map: number, six totals.
-fn map_row(label: &[u8], rounds: usize)
+// The square doubled by a map. Asked: rounds. Answered: number, six totals.
+fn double_row(rounds: usize)
     requires { ⌜ rounds ≤ 256 ⌝ }
 {
     let answer = plots::doubled_square(rounds);
-    show_label(label);
+    show_label(b"double");
+    show_natural(rounds as u64);
     show_natural(map_number(answer));
     show_totals(map_totals(answer));
     end_row();
 }
 
-// An outline of 256 rounds on a sheet that has as many earlier: number and totals of its end, then the sheet.
-fn sheet_row(label: &[u8], earlier: u32) {
+// An outline of 256 rounds on a sheet. Asked: how many such came earlier. Answered: number and totals of its end, then the sheet.
+fn sheet_row(earlier: u32) {
     let reply = plots::sheet_of_squares(earlier);
     let answer = reply.answer;
     let sheet = reply.sheet;
     let totals = sheet.totals;
-    show_label(label);
+    show_label(b"sheet");
+    show_natural(earlier as u64);
     show_natural(end_number(answer));
     show_totals(end_totals(answer));
     show_natural(sheet.count as u64);
@@ -67,23 +74,27 @@ fn sheet_row(label: &[u8], earlier: u32) {
     end_row();
 }
 
-// A run from column 1,023 on: number, index, six sums.
-fn column_row(label: &[u8], length: u32) {
-    let figures = region_figures(plots::last_column(length));
+// One run. Asked: first column, length. Answered: number, index, six sums.
+fn run_row(first: u32, length: u32) {
+    let figures = region_figures(plots::run_sums(first, length));
     let sums = figures.sums;
-    show_label(label);
+    show_label(b"run");
+    show_natural(first as u64);
+    show_natural(length as u64);
     show_natural(figures.number);
     show_natural(figures.index as u64);
     show_sums(sums);
     end_row();
 }
 
-// An open walk of 3 points handed in: number, six totals answered, the sheet's count.
-fn walk_row(label: &[u8], a2: i64) {
-    let reply = plots::handed_in(a2);
+// An open walk handed in. Asked: points, A2. Answered: number, six totals of its end, the sheet's count.
+fn walk_row(count: u32, a2: i64) {
+    let reply = plots::handed_in(count, a2);
     let answer = reply.answer;
     let sheet = reply.sheet;
-    show_label(label);
+    show_label(b"walk");
+    show_natural(count as u64);
+    show_integer(a2);
     show_natural(end_number(answer));
     show_totals(end_totals(answer));
     show_natural(sheet.count as u64);
@@ -91,16 +102,16 @@ fn walk_row(label: &[u8], a2: i64) {
 }
 
 fn main() {
-    limit_row(b"limit-2000", 2000);
-    limit_row(b"limit-2001", 2001);
-    point_row(b"point-1025", 0, 0);
-    point_row(b"point-1025-outside", 2001, 0);
-    map_row(b"double-244", 244);
-    map_row(b"double-245", 245);
-    sheet_row(b"sheet-15", 14);
-    sheet_row(b"sheet-16", 15);
-    column_row(b"column-1023-length-1", 1);
-    column_row(b"column-1023-length-2", 2);
-    walk_row(b"walk-24000000", 24_000_000);
-    walk_row(b"walk-24000001", 24_000_001);
+    limit_row(2000);
+    limit_row(2001);
+    point_row(0, 0);
+    point_row(2001, 0);
+    double_row(244);
+    double_row(245);
+    sheet_row(14);
+    sheet_row(15);
+    run_row(1023, 1);
+    run_row(1023, 2);
+    walk_row(3, 24_000_000);
+    walk_row(3, 24_000_001);
 }

@@ -10,7 +10,7 @@ ghost use Rattle.survey.specs.ListAnswer.{reading as listReading};
 ghost use Rattle.survey.specs.WalkAnswers.{pointReading, endReading};
 ghost use Rattle.affine.specs.Answer.{reading as mapReading};
 ghost use Rattle.cells.specs.RegionCall.{Answers};
-ghost use Rattle.worked_plots.specs.Plots.{roundSquare, doubling, afterPoints, square, walkedSquare, endAfter, triangle, lastColumn, handedIn};
+ghost use Rattle.worked_plots.specs.Plots.{roundSquare, doubling, afterPoints, square, walkedSquare, endAfter, triangle, runOf, handedIn};
 use crate::figures::list_totals;
 use affine::MapAnswer;
 use cells::RegionAnswer;
@@ -119,22 +119,22 @@ pub(crate) fn sheet_of_squares(earlier: u32) -> EndReply
     reply
 }
 
-// A run of row 0 from column 1,023 on.
-pub(crate) fn last_column(length: u32) -> RegionAnswer
-    ensures { λ r. ⌜ Answers (lastColumn length ∷ []) r ⌝ }
+// One run, of row 0.
+pub(crate) fn run_sums(first: u32, length: u32) -> RegionAnswer
+    ensures { λ r. ⌜ Answers (runOf first length ∷ []) r ⌝ }
 {
     let run = Run {
         row: 0,
-        first: 1023,
+        first,
         length,
     };
     let runs = [run; 4097];
     region_array::region_sums_of(runs, 1)
 }
 
-// An open walk of 3 points with this A2.
-pub(crate) fn handed_in(a2: i64) -> EndReply
-    ensures { λ r. ⌜ endReading r ≡ endCall (handedIn a2) newSheet ⌝ }
+// The end of an open walk of `count` points with this A2, on a new sheet.
+pub(crate) fn handed_in(count: u32, a2: i64) -> EndReply
+    ensures { λ r. ⌜ endReading r ≡ endCall (handedIn count a2) newSheet ⌝ }
 {
     let totals = Totals {
         a2,
@@ -148,7 +148,7 @@ pub(crate) fn handed_in(a2: i64) -> EndReply
     let last = ORIGIN;
     let walk = Walk {
         is_open: true,
-        count: 3,
+        count,
         first,
         last,
         totals,

@@ -11,13 +11,17 @@ pub(crate) fn show_natural(n: u64) {
     io::print_decimal(1, n);
 }
 
-fn show_integer(n: i64) {
+pub(crate) fn show_integer(n: i64) {
     if n < 0 {
         io::write_all(1, b"\t-");
         io::print_decimal(1, printing::magnitude(n));
         return;
     }
     show_natural(printing::magnitude(n));
+}
+
+pub(crate) fn show_coordinate(x: i32) {
+    show_integer(x as i64);
 }
 
 pub(crate) fn show_totals(t: Totals) {

@@ -14,7 +14,7 @@ end-requires : tie.Need-end-requires
 end-requires c κs = search needs
 
 returns : tie.Need-returns
-returns c = c .end .ensures ∙ (λ i. endCall (handedIn (toZ-ofZ (c .before .before .fits .a2) i)) (c .before .new-sheet .ensures i))
+returns c = c .end .ensures ∙ (λ i. endCall (handedIn (c .before .before .args .count) (toZ-ofZ (c .before .before .fits .a2) i)) (c .before .new-sheet .ensures i))
 
 pub handed-in-spec : {M : Type 1} → statement M
 handed-in-spec = tie.close (tie.spec new-sheet-requires end-requires returns)
