@@ -14,6 +14,7 @@ use figures::map_number;
 use figures::map_totals;
 use figures::point_number;
 use figures::region_figures;
+use outline::Position;
 use show::end_row;
 use show::show_coordinate;
 use show::show_integer;
@@ -33,14 +34,14 @@ fn limit_row(x: i32) {
 }
 
 // Point 1,025 is 23, but 1 if out of limits. Asked: its coordinates. Answered: number, count and six totals of the walk.
-fn point_row(x: i32, y: i32) {
-    let reply = plots::point_1025(x, y);
+fn point_row(p: Position) {
+    let reply = plots::point_1025(p);
     let answer = reply.answer;
     let walk = reply.walk;
     let totals = walk.totals;
     show_label(b"point-1025");
-    show_coordinate(x);
-    show_coordinate(y);
+    show_coordinate(p.x);
+    show_coordinate(p.y);
     show_natural(point_number(answer));
     show_natural(walk.count as u64);
     show_totals(totals);
@@ -104,8 +105,8 @@ fn walk_row(count: u32, a2: i64) {
 fn main() {
     limit_row(2000);
     limit_row(2001);
-    point_row(0, 0);
-    point_row(2001, 0);
+    point_row(Position { x: 0, y: 0 });
+    point_row(Position { x: 2001, y: 0 });
     double_row(244);
     double_row(245);
     sheet_row(14);

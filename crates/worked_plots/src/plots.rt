@@ -95,11 +95,11 @@ fn walk_square(w: Walk) -> Walk
 }
 
 // Point 1,025.
-pub(crate) fn point_1025(x: i32, y: i32) -> PointReply
-    ensures { λ r. ⌜ pointReading r ≡ pointCall (walkedSquare closed) (record { x = x; y = y }) ⌝ }
+pub(crate) fn point_1025(p: Position) -> PointReply
+    ensures { λ r. ⌜ pointReading r ≡ pointCall (walkedSquare closed) p ⌝ }
 {
     let w = walk_square(begin_abandon::new_walk());
-    survey::point(w, x, y)
+    survey::point(w, p.x, p.y)
 }
 
 // An outline of 256 rounds on a sheet that has `earlier` such outlines.
