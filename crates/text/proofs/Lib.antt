@@ -17,3 +17,4 @@ pub mod LastCall
 pub mod Chunks
 pub mod LinesInTurn
 pub mod OutputLaws
+pub mod ChunksUse
