@@ -18,3 +18,4 @@ pub mod Chunks
 pub mod LinesInTurn
 pub mod OutputLaws
 pub mod ChunksUse
+pub mod LineByLine

@@ -13,7 +13,6 @@ use Rattle.outline.specs.declared.Sheet.{Sheet}
 use Rattle.outline.specs.ListCall.{accepted, numbers, listCall}
 use Rattle.outline.specs.Pieces.{sumOf}
 use Rattle.outline.specs.WalkCalls.{closed, newSheet, EndOutcome, endCall}
-use Rattle.outline.specs.CallLists as Calls
 use Rattle.outline.specs.CallLists.{Call, Trace, walkAfter, next, after, from, sheetAfter, addedBy}
 use Rattle.outline.specs.SheetSums.{HoldsSums}
 use Rattle.outline.specs.WalkedOutline.{IsOutline}
@@ -24,17 +23,10 @@ use Rattle.outline.proofs.SheetSums.{sheet-sums}
 use Rattle.forms.specs.Grammar.{Form, begin, end, abandon, point, other, formOf}
 use Rattle.printing.specs.Output.{outlineLine, sheetLine}
 use Rattle.text.specs.Program.{Line, Carried, carriedWalk, carriedEnd, carryOut, linesFrom, program}
+use Rattle.text.specs.LineByLine.{callOf}
 use Rattle.text.proofs.LinesInTurn.{carried, carriedAll, linesWithin, lineBeyond, program-parts}
 
 -- ---- the calls that lines ask for
-
--- A line of none of the forms asks for no call. An end is handed the sheet of that moment.
-unfoldable pub callOf : Form → Sheet → List Call
-callOf begin s = Calls.begin ∷ []
-callOf end s = Calls.end s ∷ []
-callOf abandon s = Calls.abandon ∷ []
-callOf other s = []
-callOf (point x y) s = Calls.point (record { x = x; y = y }) ∷ []
 
 -- Lines, each with the walk and the sheet that the lines before it leave.
 unfoldable pub callsOf : Walk → Sheet → List Line → List Call
@@ -56,7 +48,7 @@ outlinesOf w s (l ∷ ls) = let r = carried w s l in outlineOf (formOf (l .bytes
 
 -- ---- walks: each line leaves the walk that its call leaves
 
-after-append : (r : Trace) (a b : List Call) → after r (a ++ b) ≡ after (after r a) b
+pub after-append : (r : Trace) (a b : List Call) → after r (a ++ b) ≡ after (after r a) b
 unfolding after
 after-append r [] b = refl
 after-append r (c ∷ a) b = after-append (next r c) a b
@@ -148,7 +140,7 @@ pub sheet-law : (ls : List Line) → afterLines ls .sheet ≡ record { count = l
 sheet-law ls = let sums = lines-sums ls in λ i. record { count = sums .count i; totals = sums .totals i }
 
 -- What an accepted end prints.
-end-prints : (n : ℕ) (r : Trace) (s : Sheet) → IsOutline r → endCall (r .walk) s .number ≡ 0 → (let answer = listCall (numbers (r .points)) in (answer .number ≡ 0) × (carryOut n end (r .walk) s .output ≡ outlineLine (s .count + 1) (length (r .points)) (answer .totals)))
+pub end-prints : (n : ℕ) (r : Trace) (s : Sheet) → IsOutline r → endCall (r .walk) s .number ≡ 0 → (let answer = listCall (numbers (r .points)) in (answer .number ≡ 0) × (carryOut n end (r .walk) s .output ≡ outlineLine (s .count + 1) (length (r .points)) (answer .totals)))
 unfolding carryOut carriedEnd
 end-prints n r s o z = go (endCall (r .walk) s) (end-case (r .walk) s) z (o .same s z)
   where

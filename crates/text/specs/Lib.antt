@@ -1,3 +1,4 @@
 pub mod Program
 pub mod Stream
 pub mod Chunks
+pub mod LineByLine
