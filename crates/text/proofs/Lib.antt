@@ -19,3 +19,4 @@ pub mod LinesInTurn
 pub mod OutputLaws
 pub mod ChunksUse
 pub mod LineByLine
+pub mod LineByLineUse

@@ -40,14 +40,14 @@ reached-outline (calls, e) = subst WalkedOutline e (walked-outline closed refl c
 -- ---- what a line does, by its call
 
 -- A line is an end or is not.
-isEnd : Form → Bool
+unfoldable pub isEnd : Form → Bool
 isEnd begin = false
 isEnd end = true
 isEnd abandon = false
 isEnd other = false
 isEnd (point x y) = false
 
-not-end : (f : Form) → isEnd f ≡ false → f ≢ end
+pub not-end : (f : Form) → isEnd f ≡ false → f ≢ end
 unfolding isEnd
 not-end f e q = true≢false (sym (ap isEnd q) ∙ e)
 
