@@ -45,16 +45,16 @@ ChunksSoFar =
 -- A run that has written the S line: what is written is the program's output.
 abbrev pub Chunks : Type 0
 Chunks =
-    -- Wherever the run stops,
-    (p : Place)
+    -- Wherever the run ends,
+    (end : Place)
     -- whatever the input is
     (input : List ℕ)
     -- and whatever is written on the way,
     (out : List ℕ) →
     -- from the start, with a new sheet and nothing read yet,
-    Run p start newSheet [] input out →
+    Run end start newSheet [] input out →
     -- once the S line is written:
-    p .state .written ≡ true →
+    end .state .written ≡ true →
     out ≡ program input
 
 -- The same where the input is cut off behind the byte that ends the reading.

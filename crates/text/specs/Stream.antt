@@ -1,5 +1,5 @@
 -- The streaming core, ours: what one step and one call do with a chunk of the input and the room for output, for every state and every chunk.
--- proofs/Chunks shows that however the input is chunked, the output is `program`'s.
+-- `Chunks` states that however the input is chunked, the output is `program`'s.
 use Prim.Native.Nat.{ℕ, zero, suc, _+_, _-_, min}
 use mathlib.Core.Bool.{Bool, true, false, not, _&&_, _||_, cond}
 use mathlib.Core.List.{List, [], _∷_, _++_}
