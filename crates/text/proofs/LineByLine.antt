@@ -1,6 +1,6 @@
 -- The program's output is the one that document 01's sentences say, line by line: each line prints nothing, one O line or one R line, by the number that its call answers.
 use Prim.Native.Nat.{ℕ, _+_}
-use mathlib.Core.Path.{_≡_, refl, sym, ap, ap₂, subst, _∙_}
+use mathlib.Core.Path.{_≡_, refl, sym, ap, subst, _∙_}
 use mathlib.Core.Bool.{Bool, true, false, true≢false}
 use mathlib.Core.List.{List, [], _∷_, _++_}
 use mathlib.Core.Logic.{_≢_, _⊎_, inl, inr}
@@ -10,17 +10,16 @@ use lib.Dec.{eqb}
 use borrow.Author.Tests.{eqb-true, eqb-false, ne-eqb}
 use Rattle.outline.specs.declared.Walk.{Walk}
 use Rattle.outline.specs.declared.Sheet.{Sheet}
-use Rattle.outline.specs.ListCall.{numbers, listCall}
 use Rattle.outline.specs.WalkCalls.{closed, newSheet, sheetWith, EndOutcome, endCall}
 use Rattle.outline.specs.CallLists as Calls
 use Rattle.outline.specs.CallLists.{Call, Trace, numberOf, walkAfter, next, after, from}
 use Rattle.outline.proofs.CallCases as Case
 use Rattle.outline.proofs.CallCases.{EndCase, end-case}
-use Rattle.outline.proofs.Refusals.{walk-unchanged, end-unchanged}
+use Rattle.outline.proofs.Refusals.{walk-unchanged}
 use Rattle.outline.proofs.WalkedOutline.{WalkedOutline, walked-outline}
 use Rattle.forms.specs.Grammar.{Form, begin, end, abandon, point, other, formOf}
 use Rattle.printing.specs.Output.{outlineLine, refusalLine, sheetLine}
-use Rattle.text.specs.Program.{Line, Carried, tooFar, told, carriedWalk, carriedEnd, carryOut, outputOf, linesFrom, program}
+use Rattle.text.specs.Program.{Line, tooFar, told, carriedWalk, carriedEnd, carryOut, outputOf, linesFrom, program}
 use Rattle.text.specs.LineByLine.{callOf, LinePrints, formless, silent, outline, refused, Output, ends, far, near, LineByLine, LineByLineOnly}
 use Rattle.text.proofs.LinesInTurn.{carried}
 use Rattle.text.proofs.OutputLaws.{after-append, end-prints}

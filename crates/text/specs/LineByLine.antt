@@ -1,4 +1,4 @@
--- Document 01, "The text program": the output line by line, as the sentences say it, by the numbers that the lines' calls answer. `program` computes no other output.
+-- Document 01, "The text program": the output line by line, as its sentences say it, by the numbers that the lines' calls answer. `program` has this output and no other.
 use Prim.Native.Nat.{ℕ, _+_}
 use mathlib.Core.Path.{_≡_}
 use mathlib.Core.Bool.{true, false}
@@ -23,7 +23,8 @@ callOf abandon s = Calls.abandon ∷ []
 callOf other s = []
 callOf (point x y) s = Calls.point (record { x = x; y = y }) ∷ []
 
--- A line within the limits, after calls that left the trace r and the sheet s: what it prints, and the trace and the sheet that it leaves.
+-- A line within the limits, after calls that left the trace r (the walk, and the points taken since it was opened) and the sheet s: what it prints, and the trace and
+-- the sheet that it leaves.
 pub data LinePrints (r : Trace) (s : Sheet) (l : Line) : List ℕ → Trace → Sheet → Type 0 where
   -- 9, and no call.
   formless : formOf (l .bytes) ≡ other → LinePrints r s l (refusalLine (l .number) 9) r s
@@ -43,7 +44,7 @@ pub data Output : Trace → Sheet → List Line → List ℕ → Type 0 where
   -- A line within the limits, and then the others.
   near : {r left : Trace} {s kept : Sheet} {out rest : List ℕ} (l : Line) (ls : List Line) → tooFar l ≡ false → LinePrints r s l out left kept → Output left kept ls rest → Output r s (l ∷ ls) (out ++ rest)
 
--- The program's output is what the sentences say,
+-- The program's output is what the sentences allow,
 abbrev pub LineByLine : Type 0
 LineByLine =
     -- whatever the input is,
@@ -51,13 +52,13 @@ LineByLine =
     -- from a closed walk and a new sheet on.
     Output (from closed) newSheet (linesFrom 0 0 [] input) (program input)
 
--- and they say nothing else,
+-- and they allow no other,
 abbrev pub LineByLineOnly : Type 0
 LineByLineOnly =
     -- whatever the input is
     (input : List ℕ)
-    -- and whatever output
+    -- and whatever output there may be,
     (out : List ℕ) →
-    -- they allow.
+    -- if they allow it, from a closed walk and a new sheet on.
     Output (from closed) newSheet (linesFrom 0 0 [] input) out →
     out ≡ program input
