@@ -13,10 +13,11 @@ use Rattle.outline.specs.declared.Sheet.{Sheet}
 use Rattle.outline.specs.WalkCalls.{closed, newSheet, sheetWith, EndOutcome, endCall}
 use Rattle.outline.specs.CallLists as Calls
 use Rattle.outline.specs.CallLists.{Call, Trace, numberOf, walkAfter, next, after, from}
+use Rattle.outline.specs.WalkedOutline.{IsOutline}
 use Rattle.outline.proofs.CallCases as Case
 use Rattle.outline.proofs.CallCases.{EndCase, end-case}
 use Rattle.outline.proofs.Refusals.{walk-unchanged}
-use Rattle.outline.proofs.WalkedOutline.{WalkedOutline, walked-outline}
+use Rattle.outline.proofs.WalkedOutline.{walked-outline}
 use Rattle.forms.specs.Grammar.{Form, begin, end, abandon, point, other, formOf}
 use Rattle.printing.specs.Output.{outlineLine, refusalLine, sheetLine}
 use Rattle.text.specs.Program.{Line, tooFar, told, carriedWalk, carriedEnd, carryOut, outputOf, linesFrom, program}
@@ -33,8 +34,8 @@ reached-next : {r : Trace} → Reached r → (c : Call) → Reached (next r c)
 unfolding after
 reached-next (calls, e) c = (calls ++ c ∷ [], after-append (from closed) calls (c ∷ []) ∙ ap (λ r. next r c) e)
 
-reached-outline : {r : Trace} → Reached r → WalkedOutline r
-reached-outline (calls, e) = subst WalkedOutline e (walked-outline closed refl calls)
+reached-outline : {r : Trace} → Reached r → IsOutline r
+reached-outline (calls, e) = subst IsOutline e (walked-outline (record { start = closed; is-closed = refl; calls = calls }))
 
 -- ---- what a line does, by its call
 

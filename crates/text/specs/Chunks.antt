@@ -37,10 +37,10 @@ ChunksSoFar =
     -- whatever the input is
     (input : List ℕ)
     -- and whatever is written on the way,
-    (out : List ℕ) →
+    (out : List ℕ)
     -- from the start, with a new sheet and nothing read yet:
-    Run p start newSheet [] input out →
-    out ++ remainingAt p ≡ program input
+    → Run p start newSheet [] input out
+    → out ++ remainingAt p ≡ program input
 
 -- A run that has written the S line: what is written is the program's output.
 abbrev pub Chunks : Type 0
@@ -50,12 +50,12 @@ Chunks =
     -- whatever the input is
     (input : List ℕ)
     -- and whatever is written on the way,
-    (out : List ℕ) →
+    (out : List ℕ)
     -- from the start, with a new sheet and nothing read yet,
-    Run end start newSheet [] input out →
+    → Run end start newSheet [] input out
     -- once the S line is written:
-    end .state .written ≡ true →
-    out ≡ program input
+    → end .state .written ≡ true
+    → out ≡ program input
 
 -- The same where the input is cut off behind the byte that ends the reading.
 abbrev pub ChunksWithin : Type 0
@@ -65,20 +65,20 @@ ChunksWithin =
     -- whatever the input is
     (input : List ℕ)
     -- and whatever is written on the way,
-    (out : List ℕ) →
+    (out : List ℕ)
     -- from the start, with a new sheet and nothing read yet, and with no byte to read after the first 33,000,001,
-    Run p start newSheet [] (take 33_000_001 input) out →
+    → Run p start newSheet [] (take 33_000_001 input) out
     -- once the S line is written:
-    p .state .written ≡ true →
-    out ≡ program input
+    → p .state .written ≡ true
+    → out ≡ program input
 
 -- From wherever a run has come to, it can go on until the S line is written. So there are runs of which `Chunks` speaks, for every input.
 abbrev pub RunsEnd : Type 0
 RunsEnd =
     -- Whatever the place,
-    (from : Place) →
+    (from : Place)
     -- there is a place
-    (p : Place)
+    → (p : Place)
     -- and there is an output
     × (out : List ℕ)
     -- so that the S line is written

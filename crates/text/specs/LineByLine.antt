@@ -48,9 +48,9 @@ pub data Output : Trace → Sheet → List Line → List ℕ → Type 0 where
 abbrev pub LineByLine : Type 0
 LineByLine =
     -- whatever the input is,
-    (input : List ℕ) →
+    (input : List ℕ)
     -- from a closed walk and a new sheet on.
-    Output (from closed) newSheet (linesFrom 0 0 [] input) (program input)
+    → Output (from closed) newSheet (linesFrom 0 0 [] input) (program input)
 
 -- and they allow no other,
 abbrev pub LineByLineOnly : Type 0
@@ -58,7 +58,7 @@ LineByLineOnly =
     -- whatever the input is
     (input : List ℕ)
     -- and whatever output there may be,
-    (out : List ℕ) →
+    (out : List ℕ)
     -- if they allow it, from a closed walk and a new sheet on.
-    Output (from closed) newSheet (linesFrom 0 0 [] input) out →
-    out ≡ program input
+    → Output (from closed) newSheet (linesFrom 0 0 [] input) out
+    → out ≡ program input
