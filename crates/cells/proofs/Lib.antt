@@ -6,3 +6,5 @@ pub mod ScanLaws
 pub mod AnswerReading
 pub mod UniqueCells
 pub mod WorkedRun
+pub mod RunLimits
+pub mod AllowedAnswers
