@@ -2,5 +2,6 @@ pub mod CallLaws
 pub mod CentreLaw
 pub mod ReadingLaw
 pub mod WorkedCentres
+pub mod CentreLimits
 pub mod CodeTests
 pub mod Limits

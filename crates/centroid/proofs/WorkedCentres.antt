@@ -1,8 +1,8 @@
 -- Document 01, "Plots worked by hand": centres that the definitions give, each by computation.
-use Prim.Native.Nat.{_^_}
 use mathlib.Core.Path.{_≡_, refl}
 use mathlib.Core.List.{List, [], _∷_}
 use lib.IntN.{ℤ, pos, negsuc}
+use Rattle.outline.specs.declared.Totals.{Totals}
 use Rattle.outline.specs.EdgeSums.{outlineTotals, edges, openEdges, sumOver, zeros, over, exceed}
 use Rattle.outline.specs.ListCall.{points}
 use Rattle.centroid.specs.declared.CellSums.{CellSums}
@@ -15,7 +15,10 @@ at x y = record { number = 0; x = x; y = y }
 abbrev ofPoints : List ℤ → CentroidOutcome
 ofPoints zs = outlineCentroidCall (outlineTotals (points zs))
 
-abbrev cells : ℤ → ℤ → ℤ → ℤ → ℤ → ℤ → CellSums
+abbrev pub totals : ℤ → ℤ → ℤ → ℤ → ℤ → ℤ → Totals
+totals a2 x6 y6 xx12 xy24 yy12 = record { a2 = a2; x6 = x6; y6 = y6; xx12 = xx12; xy24 = xy24; yy12 = yy12 }
+
+abbrev pub cells : ℤ → ℤ → ℤ → ℤ → ℤ → ℤ → CellSums
 cells a x y xx xy yy = record { count = a; x = x; y = y; xx = xx; xy = xy; yy = yy }
 
 -- ---- halves go up: document 01, "Errors a surveyor would not notice"
@@ -30,7 +33,7 @@ minus-three-halves = refl
 
 -- ---- outlines
 
-unit-square : outlineCentroidCall (record { a2 = pos 2; x6 = pos 3; y6 = pos 3; xx12 = pos 4; xy24 = pos 6; yy12 = pos 4 }) ≡ at (pos 1) (pos 1)
+unit-square : outlineCentroidCall (totals (pos 2) (pos 3) (pos 3) (pos 4) (pos 6) (pos 4)) ≡ at (pos 1) (pos 1)
 unfolding isCentre firstCentre centre outlineCentroidCall signedBy over exceed
 unit-square = refl
 
@@ -43,6 +46,11 @@ square-at-minus-one = refl
 reversed-square : ofPoints (negsuc 0 ∷ pos 1 ∷ pos 0 ∷ pos 1 ∷ pos 0 ∷ pos 0 ∷ negsuc 0 ∷ pos 0 ∷ []) ≡ at (pos 0) (pos 1)
 unfolding points edges openEdges sumOver isCentre firstCentre centre outlineCentroidCall signedBy over exceed
 reversed-square = refl
+
+-- A2 is -2, X6 is 9 and Y6 is -27: the signs are turned before a half goes up, from -3/2 to -1 and from 9/2 to 5
+area-below-0 : outlineCentroidCall (totals (negsuc 1) (pos 9) (negsuc 26) (pos 0) (pos 0) (pos 0)) ≡ at (negsuc 0) (pos 5)
+unfolding isCentre firstCentre centre outlineCentroidCall signedBy over exceed
+area-below-0 = refl
 
 rectangle : ofPoints (pos 2 ∷ pos 0 ∷ pos 10 ∷ pos 4 ∷ pos 8 ∷ pos 8 ∷ pos 0 ∷ pos 4 ∷ []) ≡ at (pos 5) (pos 4)
 unfolding points edges openEdges sumOver isCentre firstCentre centre outlineCentroidCall signedBy over exceed
@@ -57,18 +65,6 @@ no-area : outlineCentroidCall zeros ≡ refused 27
 unfolding outlineCentroidCall over exceed
 no-area = refl
 
--- ---- the limits of 11
-
--- 10^18 itself is taken
-at-the-limit : outlineCentroidCall (record { a2 = pos 0; x6 = pos (10 ^ 18); y6 = pos 0; xx12 = pos 0; xy24 = pos 0; yy12 = pos (10 ^ 18) }) ≡ refused 27
-unfolding outlineCentroidCall over exceed
-at-the-limit = refl
-
--- a second moment counts, and 11 comes before 27
-past-the-limit : outlineCentroidCall (record { a2 = pos 0; x6 = pos 0; y6 = pos 0; xx12 = pos 0; xy24 = pos 0; yy12 = negsuc (10 ^ 18) }) ≡ refused 11
-unfolding outlineCentroidCall over exceed
-past-the-limit = refl
-
 -- ---- cells
 
 -- the run in row 3 from column 2, of length 3
@@ -76,18 +72,7 @@ run : regionCentroidCall (cells (pos 3) (pos 9) (pos 9) (pos 29) (pos 27) (pos 2
 unfolding isCentre firstCentre centre outsideLimit sumsOutside regionCentroidCall
 run = refl
 
-no-cells : regionCentroidCall (cells (pos 0) (pos 0) (pos 0) (pos 0) (pos 0) (pos 0)) ≡ refused 27
-unfolding outsideLimit sumsOutside regionCentroidCall
-no-cells = refl
-
-full-grid : regionCentroidCall (cells (pos 1_048_576) (pos 0) (pos 1_048_576) (pos 0) (pos 0) (pos 0)) .number ≡ 0
-unfolding outsideLimit sumsOutside regionCentroidCall
-full-grid = refl
-
-too-many-cells : regionCentroidCall (cells (pos 1_048_577) (pos 0) (pos 0) (pos 0) (pos 0) (pos 0)) ≡ refused 11
-unfolding outsideLimit sumsOutside regionCentroidCall
-too-many-cells = refl
-
-negative-sum : regionCentroidCall (cells (pos 1) (pos 0) (pos 0) (pos 0) (negsuc 0) (pos 0)) ≡ refused 11
-unfolding outsideLimit sumsOutside regionCentroidCall
-negative-sum = refl
+-- the cells (1,0) and (2,1): 3/2 and 1/2, and halves go up
+two-cells : regionCentroidCall (cells (pos 2) (pos 3) (pos 1) (pos 5) (pos 2) (pos 1)) ≡ at (pos 2) (pos 1)
+unfolding isCentre firstCentre centre outsideLimit sumsOutside regionCentroidCall
+two-cells = refl
