@@ -90,3 +90,7 @@ pub each-cell-once : (rs : List Run) (i : ℕ) → regionCall rs i .number ≡ 0
 unfolding allCells
 each-cell-once [] i e = once 0 0 [] tt
 each-cell-once (r ∷ rs) i e = once (r .row) (r .first) (allCells (r ∷ rs)) (ascending r rs (in-order (r ∷ rs) i e))
+
+-- The claim fails for a list in which a cell comes again, though not at once.
+cell-again : EachOnce (origin ∷ record { x = 1; y = 0 } ∷ origin ∷ []) → ⊥
+cell-again each = each 0 2 (omega arith) (omega arith) refl
