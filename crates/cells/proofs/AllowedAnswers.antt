@@ -24,6 +24,7 @@ outcomes-agree rs i j = go (tooMany rs) (anyBad rs) (disordered rs) (regionSums 
   where
     call : Bool → Bool → Bool → CellSums → ℕ → RegionOutcome
     call a b c s k = cond a (refused 8 0) (cond b (refused 6 k) (cond c (refused 7 k) (record { number = 0; index = 0; sums = s })))
+
     go : (a b c : Bool) (s : CellSums) → SameButIndex (call a b c s i) (call a b c s j)
     go true b c s = record { number = refl; sums = refl }
     go false true c s = record { number = refl; sums = refl }
