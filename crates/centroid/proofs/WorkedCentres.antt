@@ -1,4 +1,4 @@
--- Document 01, "Plots worked by hand": centres that the definitions give, each by computation.
+-- Centres that the definitions give, each by computation: of the plots of document 01, "Plots worked by hand", and where x and y could be exchanged unseen.
 use mathlib.Core.Path.{_≡_, refl}
 use mathlib.Core.List.{List, [], _∷_}
 use lib.IntN.{ℤ, pos, negsuc}
