@@ -1,7 +1,11 @@
 // Document 01's text program, from standard input to standard output. What the bytes give is `stream`'s to say; here they are read and written, 64 KB at a time.
 ghost use mathlib.Core.Path.{_≡_};
 ghost use Prim.Native.Nat.{_+_, _-_, _≤_, _<_};
+ghost use mathlib.Core.Bool.{true};
+ghost use lib.IntN.{pos};
 ghost use lib.ListN.{length, take, drop};
+ghost use lib.Signed.{ltZ};
+ghost use Rattle.io.specs.Counts.{clamped};
 ghost use Rattle.printing.specs.Put.{put};
 
 // Brings the bytes from `from` up to `to` to the front; answers how many they are.
@@ -25,19 +29,27 @@ struct Received {
     size: usize,
 }
 
-// One read after the first `have` bytes. There is room: a read into none would look like the end of the input.
-fn read_after(buf: &mut [u8], have: usize) -> Received
-    requires { ⌜ have < length (now buf) ⌝ }
-    ensures { λ r. ⌜ r .size ≤ length (now (buf .entry)) - have ⌝ }
-    ensures { λ r. ⌜ take have (now (buf .exit)) ≡ take have (now (buf .entry)) ⌝ }
+// What the answer of a read into `part` means: below 0, that it failed; else, how many bytes it put there.
+fn answered(got: isize, part: &[u8]) -> Received
+    ensures { λ r. ⌜ r ≡ record { failed = ltZ got (pos 0); size = clamped got (length (now (part .entry))) } ⌝ }
 {
-    let part = &mut buf[have..];
-    let got = libc::read(0, part);
     let size = io::count(got, part);
     Received {
         failed: got < 0,
         size,
     }
+}
+
+// One read after the first `have` bytes. There is room: a read into none would look like the end of the input.
+fn read_after(buf: &mut [u8], have: usize) -> Received
+    requires { ⌜ have < length (now buf) ⌝ }
+    ensures { λ r. ⌜ r .size ≤ length (now (buf .entry)) - have ⌝ }
+    ensures { λ r. ⌜ (r .failed ≡ true → r .size ≡ 0) ⌝ }
+    ensures { λ r. ⌜ take have (now (buf .exit)) ≡ take have (now (buf .entry)) ⌝ }
+{
+    let part = &mut buf[have..];
+    let got = libc::read(0, part);
+    answered(got, part)
 }
 
 fn report_unread() {

@@ -1,11 +1,27 @@
--- `plots::read_after` meets its contract: of the buffer only the part that is lent to `read` can change.
-use Prim.Native.Nat.{_-_}
+-- `plots::read_after` meets its contract: of the buffer only the part that is lent to `read` can change, and a read that failed has put nothing.
+use Prim.Native.Nat.{ℕ, _-_, _≤_}
+use mathlib.Core.Path.{_≡_, refl, _∙_}
+use mathlib.Core.Bool.{true}
 use native.Mathlib.Omega.{arith}
+use lib.IntN.{ℤ, pos, negsuc}
 use lib.ListN.{length}
-use borrow.Rule.Slice.PartMut.{take-put}
+use lib.Signed.{ltZ}
+use mir.Syntax.{w64}
+use mir.Val.{toZ, ofZ}
 use borrow.Author.Needs.{needs}
+use borrow.Author.Tests.{ltb-true}
+use borrow.Rule.Slice.PartMut.{mid-len, take-put}
+use Rattle.io.specs.Counts.{clamped}
 use Rattle.plots.proofs.read_after.Statement.{statement}
 use Rattle.plots.proofs.read_after.Tie as tie
+
+within : (got : ℤ) (room : ℕ) → clamped got room ≤ room
+within (pos k) room = omega arith
+within (negsuc k) room = omega arith
+
+failed-none : (got : ℤ) (room : ℕ) → ltZ got (pos 0) ≡ true → clamped got room ≡ 0
+failed-none (pos k) room h = absurd (omega (arith, ltb-true k 0 h))
+failed-none (negsuc k) room h = refl
 
 sub-part : tie.Need-sub-part
 sub-part c = search needs
@@ -19,16 +35,23 @@ part-part-end c = search needs
 read-requires : tie.Need-read-requires
 read-requires c κs = search needs
 
-count-requires : tie.Need-count-requires
-count-requires c κs = search needs
+answered-requires : tie.Need-answered-requires
+answered-requires c κs = search needs
 
 same-length : tie.Need-same-length
 same-length c = search needs
 
 returns : tie.Need-returns
 returns c =
-    let a = c .before .before .before .before .before .before .before .before .before .before .args in
-    (search needs, take-put (a .have) (length (a .buf .now) - a .have) (a .buf .now) (c .before .before .before .before .before .before .read .last .1 .0) (omega arith))
+    let at-answered = c .before .before in
+    let at-read = at-answered .before .before .before .before in
+    let a = at-read .before .before .before .before .args in
+    let got = toZ w64 (ofZ w64 (at-read .read .result)) in
+    let part = at-read .read .last .1 .0 in
+    let room : length part ≡ length (a .buf .now) - a .have = at-read .read .kept .1 .0 ∙ mid-len (a .have) (length (a .buf .now)) (a .buf .now) (omega arith) in (
+      rw (at-answered .answered .ensures) (omega (arith, within got (length part))),
+      (rw (at-answered .answered .ensures) (failed-none got (length part)), take-put (a .have) (length (a .buf .now) - a .have) (a .buf .now) part (omega arith)),
+    )
 
 pub read-after-spec : {M : Type 1} → statement M
 read-after-spec =
@@ -38,6 +61,6 @@ read-after-spec =
     part-part-start
     part-part-end
     read-requires
-    count-requires
+    answered-requires
     same-length
     returns)
