@@ -39,6 +39,7 @@ start-sound = record { fits = record { lines = omega arith; sheet = record { cou
 
 -- Only reading helps: `have` bytes are left, and less is left to do when n are read, or the end of the input is found.
 pub record BeforeRead (last : Bool) (st : State) (size : ℕ) (after : State) (have : ℕ) : Type 0 where
+  pub not-last : last ≡ false
   pub few : have ≤ 32
   pub less : (n : ℕ) → n ≤ 65_536 → toDo after (have + n) (eqb n 0) < toDo st size last
 
@@ -107,5 +108,5 @@ module _ (last : Bool) (st : State) (s : Sheet) (chunk : List ℕ) (room : ℕ) 
         written = feed-room last st s chunk room (k .fits) .0;
         sound = still-sound;
         full = λ l. omega (arith, onward, no-more-unread);
-        reads = λ l on. record { few = omega (arith, length-drop (call .used) chunk, waiting l on .needs .short); less = less-after-read l on };
+        reads = λ l on. record { not-last = waiting l on .needs .not-final; few = omega (arith, length-drop (call .used) chunk, waiting l on .needs .short); less = less-after-read l on };
       })

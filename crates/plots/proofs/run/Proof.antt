@@ -1,37 +1,107 @@
--- `plots::run` meets its contract: it is safe, and ends for every input.
-use Prim.Native.Nat.{_+_, _-_, _≤_}
+-- `plots::run` meets its contract: it is safe, and ends for every input. Its loop keeps the steps that it has done, and `all-written` says what they come to.
+use Prim.Native.Nat.{ℕ, _+_, _-_, _≤_}
 use mathlib.Core.Path.{_≡_, refl, sym, subst, _∙_}
+use mathlib.Core.Bool.{Bool, true, false}
+use mathlib.Core.List.{List, [], _++_}
 use native.Mathlib.Omega.{arith}
 use lib.ListN.{length, take, drop}
 use lib.Seq.{length-take-le}
 use borrow.Author.Needs.{needs}
+use borrow.Author.Tests.{not-false}
 use borrow.Rule.Slice.PartMut.{mid-len}
+use Rattle.outline.specs.declared.Sheet.{Sheet}
+use Rattle.text.specs.declared.State.{State}
+use Rattle.text.specs.Program.{program}
 use Rattle.plots.proofs.Turns.{toDo, Sound, start-sound, BeforeRead, AfterCall, after-call}
+use Rattle.plots.proofs.SoFar.{SoFar, at-start, at-end, after-write, after-read}
 use Rattle.plots.proofs.run.Statement.{statement}
 use Rattle.plots.proofs.run.Tie as tie
 
+-- What a turn keeps.
+record Kept (buf₀ out₀ buf out : List ℕ) (state : State) (sheet : Sheet) (at have : ℕ) (last : Bool) : Type 0 where
+  order : at ≤ have
+  inside : have ≤ length buf
+  buf-size : length buf ≡ length buf₀
+  out-size : length out ≡ length out₀
+  sound : Sound state sheet
+  so-far : SoFar last state sheet (take (have - at) (drop at buf))
+
 abbrev Inv-loop : tie.InvT-loop
-Inv-loop buf₀ out₀ state₀ sheet₀ at₀ have₀ last₀ buf out state sheet at have last =
-    (at ≤ have) × (have ≤ length buf) × (length buf ≡ length buf₀) × (length out ≡ length out₀) × Sound state sheet
+Inv-loop buf₀ out₀ state₀ sheet₀ at₀ have₀ last₀ buf out state sheet at have last = Kept buf₀ out₀ buf out state sheet at have last
 
 abbrev μ-loop : tie.MeasureT-loop
 μ-loop buf₀ out₀ state₀ sheet₀ at₀ have₀ last₀ buf out state sheet at have last = toDo state (have - at) last
 
--- What is known after the call,
-after-feed : (c : tie.After-feed Inv-loop μ-loop) → (let l = c .before .before .before .before .loop in AfterCall (l .last) (l .state) (l .have - l .at) (length (l .out)) (c .feed .result))
-after-feed c =
-    let l = c .before .before .before .before .loop in
-    let chunk = take (l .have - l .at) (drop (l .at) (l .buf)) in
-    subst (λ n. AfterCall (l .last) (l .state) n (length (l .out)) (c .feed .result)) (mid-len (l .at) (l .have) (l .buf) (l .inv .1))
-    (after-call (l .last) (l .state) (l .sheet) chunk (length (l .out)) (omega (arith, c .before .before .before .before .before .before .before .before .before .pre)) (l .inv .4) (c .feed .result) (c .feed .ensures .answer))
+-- ---- the places of a turn, each from the next: the loop's head, after `feed`, after `write_all`, where state and sheet are carried on, after `shift`, after
+-- `read_after`, and the turn's end
 
--- and where the bytes that are left stand at the front.
-after-shift : (c : tie.After-shift Inv-loop μ-loop) → (let l = c .before .before .before .before .before .before .before .before .before .before .before .before .before .before .before .before .loop in BeforeRead (l .last) (l .state) (l .have - l .at) (c .before .before .before .before .before .before .before .before .before .before .before .before .feed .result .state) (c .shift .result))
+abbrev loop-of : tie.After-feed Inv-loop μ-loop → tie.At-loop Inv-loop μ-loop
+loop-of c = c .before .before .before .before
+
+abbrev feed-of-write : tie.After-write-all Inv-loop μ-loop → tie.After-feed Inv-loop μ-loop
+feed-of-write c = c .before .before .before .before
+
+abbrev feed-of : tie.After-struct-known Inv-loop μ-loop → tie.After-feed Inv-loop μ-loop
+feed-of c = feed-of-write (c .before .before .before .before)
+
+abbrev carried-of : tie.After-shift Inv-loop μ-loop → tie.After-struct-known Inv-loop μ-loop
+carried-of c = c .before .before .before .before
+
+abbrev shift-of : tie.After-read-after Inv-loop μ-loop → tie.After-shift Inv-loop μ-loop
+shift-of c = c .before .before .before .before
+
+abbrev read-of : tie.After-struct-known3 Inv-loop μ-loop → tie.After-read-after Inv-loop μ-loop
+read-of c = c .before .before .before .before .before
+
+-- ---- what is known there
+
+-- Both buffers have 65,536 bytes,
+sizes : (c : tie.At-loop Inv-loop μ-loop) → (length (c .loop .buf) ≡ 65_536) × (length (c .loop .out) ≡ 65_536)
+sizes c =
+    let p = c .before .before .before .before .before .pre in
+    (omega (arith, c .loop .inv .buf-size), omega (arith, c .loop .inv .out-size))
+
+-- the output's also after the call.
+room : (c : tie.After-feed Inv-loop μ-loop) → length (c .feed .last .1 .1 .1 .1 .0) ≡ length (loop-of c .loop .out)
+room c = c .feed .kept .1 .1 .1 .1 .0
+
+after-feed : (c : tie.After-feed Inv-loop μ-loop) → (let l = loop-of c .loop in AfterCall (l .last) (l .state) (l .have - l .at) (length (l .out)) (c .feed .result))
+after-feed c =
+    let l = loop-of c .loop in
+    let chunk = take (l .have - l .at) (drop (l .at) (l .buf)) in
+    subst (λ n. AfterCall (l .last) (l .state) n (length (l .out)) (c .feed .result)) (mid-len (l .at) (l .have) (l .buf) (l .inv .inside))
+    (after-call (l .last) (l .state) (l .sheet) chunk (length (l .out)) (omega (arith, sizes (loop-of c) .1)) (l .inv .sound) (c .feed .result) (c .feed .ensures .answer))
+
+-- The call and the write are steps: `write_all` has answered true.
+so-far : (c : tie.After-struct-known Inv-loop μ-loop) → (let l = loop-of (feed-of c) .loop in let r = feed-of c .feed .result in let from = l .at + r .used in SoFar (l .last) (r .state) (r .sheet) (take (l .have - from) (drop from (l .buf))))
+so-far c =
+    let l = loop-of (feed-of c) .loop in
+    let f = feed-of c .feed in
+    let w = c .before .before .before .before .write-all in
+    after-write (l .last) (l .state) (l .sheet) (l .buf) (l .at) (l .have) (l .out) (f .last .1 .1 .1 .1 .0) (f .result) (w .result) (f .ensures) (omega (arith, after-feed (feed-of c) .taken, l .inv .order)) (l .inv .inside) (not-false (w .result) (c .before .before .before .if1 .left)) (l .inv .so-far)
+
+-- Where the loop returns because the S line is written: what was written is the program's output for what was read, whatever may still come.
+all-written : (c : tie.Then2 Inv-loop μ-loop) → (let k = so-far (c .before) in (rest : List ℕ) → (loop-of (feed-of (c .before)) .loop .last ≡ true → rest ≡ []) → k .out ≡ program (k .input ++ rest))
+all-written c = at-end (so-far (c .before)) (c .if2 .taken)
+
+-- Where the bytes that are left stand at the front.
+after-shift : (c : tie.After-shift Inv-loop μ-loop) → (let f = feed-of (carried-of c) in let l = loop-of f .loop in BeforeRead (l .last) (l .state) (l .have - l .at) (f .feed .result .state) (c .shift .result))
 after-shift c =
-    let l = c .before .before .before .before .before .before .before .before .before .before .before .before .before .before .before .before .loop in
-    let r = c .before .before .before .before .before .before .before .before .before .before .before .before .feed in
-    let e : c .shift .result ≡ l .have - l .at - r .result .used = omega (arith, c .shift .ensures .0) in
-    rw e (after-feed (c .before .before .before .before .before .before .before .before .before .before .before .before) .reads (omega (arith, c .before .before .if3 .left, r .kept .1 .1 .1 .1 .0)) (c .before .before .before .if2 .left))
+    let f = feed-of (carried-of c) in
+    let l = loop-of f .loop in
+    let left : l .have - l .at - f .feed .result .used ≡ c .shift .result = omega (arith, c .shift .ensures .0) in
+    subst (BeforeRead (l .last) (l .state) (l .have - l .at) (f .feed .result .state)) left
+    (after-feed f .reads (omega (arith, c .before .before .if3 .left, room f)) (c .before .before .before .if2 .left))
+
+-- A read has room, and what it puts is in the buffer.
+read-inside : (c : tie.After-read-after Inv-loop μ-loop) → (let k = shift-of c in let size = c .read-after .result .size in (k .shift .result + size ≤ 65_536) × (length (c .read-after .last .0) ≡ 65_536))
+read-inside c =
+    let k = shift-of c in
+    let s = sizes (loop-of (feed-of (carried-of k))) .0 in
+    let b = after-shift k in
+    (omega (arith, c .read-after .ensures .0, k .shift .kept .0), omega (arith, c .read-after .kept .0, k .shift .kept .0))
+
+-- ---- the needs
 
 start-requires : tie.Need-start-requires Inv-loop μ-loop
 start-requires c κs = search needs
@@ -40,7 +110,15 @@ new-sheet-requires : tie.Need-new-sheet-requires Inv-loop μ-loop
 new-sheet-requires c κs = search needs
 
 loop-holds : tie.Need-loop-holds Inv-loop μ-loop
-loop-holds c = (omega arith, omega arith, refl, refl, rw (c .before .start .ensures, c .new-sheet .ensures) start-sound)
+loop-holds c =
+    record {
+      order = omega arith;
+      inside = omega arith;
+      buf-size = refl;
+      out-size = refl;
+      sound = rw (c .before .start .ensures, c .new-sheet .ensures) start-sound;
+      so-far = rw (c .before .start .ensures, c .new-sheet .ensures) at-start;
+    }
 
 sub-feed : tie.Need-sub-feed Inv-loop μ-loop
 sub-feed c = search needs
@@ -55,15 +133,12 @@ feed-requires : tie.Need-feed-requires Inv-loop μ-loop
 feed-requires c κs = search needs
 
 slice-reshare-prefix-write-all : tie.Need-slice-reshare-prefix-write-all Inv-loop μ-loop
-slice-reshare-prefix-write-all c =
-    let f = after-feed (c .before .before) in
-    omega arith
+slice-reshare-prefix-write-all c = omega (arith, after-feed (c .before .before) .written)
 
 slice-aggregate-write-all : tie.Need-slice-aggregate-write-all Inv-loop μ-loop
 slice-aggregate-write-all c =
-    let f = after-feed (c .before .before .before) in
-    let r = c .before .before .before .feed in
-    sym (length-take-le (r .result .put) (r .last .1 .1 .1 .1 .0) (omega arith))
+    let f = c .before .before .before in
+    sym (length-take-le (f .feed .result .put) (f .feed .last .1 .1 .1 .1 .0) (omega (arith, after-feed f .written, room f)))
 
 write-all-requires : tie.Need-write-all-requires Inv-loop μ-loop
 write-all-requires c κs = search needs
@@ -82,10 +157,8 @@ returns c = search needs
 
 add-at : tie.Need-add-at Inv-loop μ-loop
 add-at c =
-    let f = after-feed (c .before .before .before .before .before .before .before .before) in
-    let l = c .before .before .before .before .before .before .before .before .before .before .before .before .loop in
-    let p = c .before .before .before .before .before .before .before .before .before .before .before .before .before .before .before .before .before .pre in
-    omega arith
+    let f = feed-of c in
+    omega (arith, after-feed f .taken, loop-of f .loop .inv, sizes (loop-of f) .0)
 
 same-length-3 : tie.Need-same-length-3 Inv-loop μ-loop
 same-length-3 c = search needs
@@ -94,69 +167,89 @@ same-length-4 : tie.Need-same-length-4 Inv-loop μ-loop
 same-length-4 c = search needs
 
 returns-2 : tie.Need-returns-2 Inv-loop μ-loop
-returns-2 c = search needs
+returns-2 c = let k = all-written c in search needs
 
 sub-if3 : tie.Need-sub-if3 Inv-loop μ-loop
 sub-if3 c =
-    let f = after-feed (c .before .before .before .before .before .before .before .before .before) in
-    omega arith
+    let f = feed-of (c .before) in
+    omega (arith, after-feed f .written, room f)
 
 loop-less : tie.Need-loop-less Inv-loop μ-loop
 loop-less c =
-    let f = after-feed (c .before .before .before .before .before .before .before .before .before .before) in
-    let l = c .before .before .before .before .before .before .before .before .before .before .before .before .before .before .loop in
-    let r = c .before .before .before .before .before .before .before .before .before .before .feed in
-    let e : l .have - (l .at + r .result .used) ≡ l .have - l .at - r .result .used = omega arith in
-    rw e (f .full (omega (arith, c .if3 .taken, r .kept .1 .1 .1 .1 .0)))
+    let f = feed-of (c .before .before) in
+    let l = loop-of f .loop in
+    let r = f .feed .result in
+    let e : l .have - (l .at + r .used) ≡ l .have - l .at - r .used = omega arith in
+    rw e (after-feed f .full (omega (arith, c .if3 .taken, room f)))
 
 loop-again : tie.Need-loop-again Inv-loop μ-loop
 loop-again c =
-    let f = after-feed (c .before .before .before .before .before .before .before .before .before .before) in
-    (omega arith, search needs, search needs, search needs, f .sound)
+    let f = feed-of (c .before .before) in
+    let l = loop-of f .loop in
+    record {
+      order = omega (arith, after-feed f .taken, l .inv .order);
+      inside = l .inv .inside;
+      buf-size = l .inv .buf-size;
+      out-size = room f ∙ l .inv .out-size;
+      sound = after-feed f .sound;
+      so-far = so-far (c .before .before);
+    }
 
 shift-requires : tie.Need-shift-requires Inv-loop μ-loop
 shift-requires c κs =
-    let f = after-feed (c .before .before .before .before .before .before .before .before .before .before .before) in
-    (omega arith, search needs)
+    let f = feed-of (c .before .before .before) in
+    let l = loop-of f .loop in
+    (omega (arith, after-feed f .taken, l .inv .order), l .inv .inside)
 
 read-after-requires : tie.Need-read-after-requires Inv-loop μ-loop
 read-after-requires c κs =
-    let b = after-shift (c .before .before .before) in
-    let l = c .before .before .before .before .before .before .before .before .before .before .before .before .before .before .before .before .before .before .before .loop in
-    omega (arith, c .before .before .before .shift .kept .0, c .before .before .before .before .before .before .before .before .before .before .before .before .before .before .before .before .before .before .before .before .before .before .before .before .pre)
+    let k = c .before .before .before in
+    omega (arith, after-shift k .few, k .shift .kept .0, sizes (loop-of (feed-of (carried-of k))) .0)
 
 report-unread-requires : tie.Need-report-unread-requires Inv-loop μ-loop
 report-unread-requires c κs = search needs
 
 same-length-5 : tie.Need-same-length-5 Inv-loop μ-loop
-same-length-5 c = c .before .before .before .before .read-after .kept .0 ∙ c .before .before .before .before .before .before .before .before .shift .kept .0 ∙ c .before .before .before .before .before .before .before .before .before .before .before .before .before .before .before .before .before .before .before .before .before .before .before .before .loop .inv .2
+same-length-5 c =
+    let r = c .before .before .before .before in
+    let k = shift-of r in
+    r .read-after .kept .0 ∙ k .shift .kept .0 ∙ loop-of (feed-of (carried-of k)) .loop .inv .buf-size
 
 same-length-6 : tie.Need-same-length-6 Inv-loop μ-loop
-same-length-6 c = c .before .before .before .before .before .before .before .before .before .before .before .before .before .before .before .before .before .before .before .before .feed .kept .1 .1 .1 .1 .0 ∙ c .before .before .before .before .before .before .before .before .before .before .before .before .before .before .before .before .before .before .before .before .before .before .before .before .loop .inv .3
+same-length-6 c =
+    let f = feed-of (carried-of (shift-of (c .before .before .before .before))) in
+    room f ∙ loop-of f .loop .inv .out-size
 
 returns-3 : tie.Need-returns-3 Inv-loop μ-loop
 returns-3 c = search needs
 
 add-have : tie.Need-add-have Inv-loop μ-loop
-add-have c =
-    let b = after-shift (c .before .before .before .before .before .before .before .before .before) in
-    let l = c .before .before .before .before .before .before .before .before .before .before .before .before .before .before .before .before .before .before .before .before .before .before .before .before .before .loop in
-    omega (arith, c .before .before .before .before .before .read-after .ensures .0, c .before .before .before .before .before .before .before .before .before .shift .kept .0, c .before .before .before .before .before .before .before .before .before .before .before .before .before .before .before .before .before .before .before .before .before .before .before .before .before .before .before .before .before .before .pre)
+add-have c = omega (arith, read-inside (read-of c) .0)
 
 loop-less-2 : tie.Need-loop-less-2 Inv-loop μ-loop
 loop-less-2 c =
-    let k = c .before .before .before .before .before .before .before .before .before .shift in
-    let m = c .before .before .before .before .before .read-after in
-    let l = c .before .before .before .before .before .before .before .before .before .before .before .before .before .before .before .before .before .before .before .before .before .before .before .before .before .loop in
-    let e : k .result + m .result .size - 0 ≡ k .result + m .result .size = omega arith in
-    rw e (after-shift (c .before .before .before .before .before .before .before .before .before) .less (m .result .size) (omega (arith, m .ensures .0, k .kept .0, c .before .before .before .before .before .before .before .before .before .before .before .before .before .before .before .before .before .before .before .before .before .before .before .before .before .before .before .before .before .before .pre)))
+    let k = shift-of (read-of c) in
+    let n = read-of c .read-after .result .size in
+    let e : k .shift .result + n - 0 ≡ k .shift .result + n = omega arith in
+    rw e (after-shift k .less n (omega (arith, read-inside (read-of c) .0)))
 
 loop-again-2 : tie.Need-loop-again-2 Inv-loop μ-loop
 loop-again-2 c =
-    let l = c .before .before .before .before .before .before .before .before .before .before .before .before .before .before .before .before .before .before .before .before .before .before .before .before .before .loop in
-    let k = c .before .before .before .before .before .before .before .before .before .shift in
-    let m = c .before .before .before .before .before .read-after in
-    (omega arith, omega (arith, after-shift (c .before .before .before .before .before .before .before .before .before) .few, c .before .before .before .before .before .before .before .before .before .before .before .before .before .before .before .before .before .before .before .before .before .before .before .before .before .before .before .before .before .before .pre, m .ensures .0, m .kept .0, k .kept .0), m .kept .0 ∙ k .kept .0 ∙ l .inv .2, c .before .before .before .before .before .before .before .before .before .before .before .before .before .before .before .before .before .before .before .before .before .feed .kept .1 .1 .1 .1 .0 ∙ l .inv .3, after-feed (c .before .before .before .before .before .before .before .before .before .before .before .before .before .before .before .before .before .before .before .before .before) .sound)
+    let m = read-of c .read-after in
+    let k = shift-of (read-of c) in
+    let f = feed-of (carried-of k) in
+    let l = loop-of f .loop in
+    let r = f .feed .result in
+    let i = read-inside (read-of c) in
+    let fed = subst (λ b. SoFar b (r .state) (r .sheet) (take (l .have - (l .at + r .used)) (drop (l .at + r .used) (l .buf)))) (after-shift k .not-last) (so-far (carried-of k)) in
+    record {
+      order = omega arith;
+      inside = omega (arith, i .0, i .1);
+      buf-size = m .kept .0 ∙ k .shift .kept .0 ∙ l .inv .buf-size;
+      out-size = room f ∙ l .inv .out-size;
+      sound = after-feed f .sound;
+      so-far = after-read (r .state) (r .sheet) (l .buf) (k .shift .last .0) (m .last .0) (l .at + r .used) (l .have) (k .shift .result) (m .result) (l .inv .inside) (k .shift .ensures .0) (k .shift .ensures .1) (m .ensures .1 .1) (omega (arith, i .0, i .1)) (c .before .before .if4 .left) fed;
+    }
 
 pub run-spec : {M : Type 1} → statement M
 run-spec =

@@ -1,0 +1,97 @@
+-- What the program's loop has read and written so far. No contract can speak of what a C function reads or writes; so the invariant of `run` holds the steps that
+-- the loop has done, and once the S line is written they give document 01's output for what was read (`at-end`).
+use Prim.Native.Nat.{ℕ, _+_, _-_, _≤_}
+use mathlib.Core.Path.{_≡_, refl, sym, ap, ap₂, subst, _∙_}
+use mathlib.Core.Bool.{Bool, true, false, true≢false}
+use mathlib.Core.List.{List, [], _++_, append-assoc, append-nil}
+use native.Mathlib.Omega.{arith}
+use lib.Dec.{eqb}
+use lib.ListN.{length, take, drop, length-drop}
+use lib.Seq.{drop-drop, take-add, take-at, drop-at, length-take-le}
+use borrow.Rule.Slice.PartMut.{mid-len}
+use Rattle.outline.specs.declared.Sheet.{Sheet}
+use Rattle.outline.specs.WalkCalls.{newSheet}
+use Rattle.printing.specs.Put.{put}
+use Rattle.text.specs.declared.State.{State}
+use Rattle.text.specs.Program.{program}
+use Rattle.text.specs.Stream.{Step, start, feedCall}
+use Rattle.text.proofs.Chunks.{Place, Run, here, reads, feeds, chunks}
+use Rattle.stream.specs.declared.Fed.{Fed}
+use Rattle.stream.specs.Feeding.{Feeds}
+use Rattle.plots.specs.declared.Received.{Received}
+
+-- The steps that lead to a state, a sheet and a buffer of bytes not taken yet, where `input` was read and `out` was written. `last`: the input has ended.
+pub data Steps : Bool → State → Sheet → List ℕ → List ℕ → List ℕ → Type 0 where
+  none : Steps false start newSheet [] [] []
+  -- A call, on the state and the sheet that the call before it left, and a write of what it put. A write that does not answer true may have written less.
+  called : {last : Bool} {st : State} {s : Sheet} {buffer input out : List ℕ} (room : ℕ) (r : Step) (text : List ℕ) (whole : Bool) → r ≡ feedCall last st s buffer room → text ≡ r .output → whole ≡ true → Steps last st s buffer input out → Steps last (r .state) (r .sheet) (drop (r .used) buffer) input (out ++ text)
+  -- A read that did not fail, to after the bytes of the buffer. One that gives none has found the end of the input.
+  received : {st : State} {s : Sheet} {buffer input out : List ℕ} (r : Received) (piece : List ℕ) → r .failed ≡ false → length piece ≡ r .size → Steps false st s buffer input out → Steps (eqb (r .size) 0) st s (buffer ++ piece) (input ++ piece) out
+
+-- ---- steps are a run of text/Chunks
+
+-- One run and then another.
+then : {p q : Place} {st : State} {s : Sheet} {buffer unread out more : List ℕ} → Run p st s buffer unread out → Run q (p .state) (p .sheet) (p .buffer) (p .unread) more → Run q st s buffer unread (out ++ more)
+then here next = next
+then (reads piece run) next = reads piece (then run next)
+then {more = more} (feeds {out = out} final room r end e run) next = rw (append-assoc (r .output) out more) (feeds final room r end e (then run next))
+
+abbrev place : State → Sheet → List ℕ → List ℕ → Place
+place st s buffer rest = record { state = st; sheet = s; buffer = buffer; unread = rest }
+
+-- Whatever may still come; after the end of the input nothing does.
+steps-run : {last : Bool} {st : State} {s : Sheet} {buffer input out : List ℕ} → Steps last st s buffer input out → (rest : List ℕ) → (last ≡ true → rest ≡ []) → Run (place st s buffer rest) start newSheet [] (input ++ rest) out
+steps-run none rest end = here
+steps-run (called {last} {st} {s} {buffer} {input} {out} room r text whole e t w before) rest end =
+    subst (λ l. Run (place (r .state) (r .sheet) (drop (r .used) buffer) rest) start newSheet [] (input ++ rest) (out ++ l)) (append-nil (r .output) ∙ sym t) (then (steps-run before rest end) (feeds last room r end e here))
+steps-run (received {st} {s} {buffer} {input} {out} r piece f l before) rest end =
+    subst (Run (place st s (buffer ++ piece) rest) start newSheet [] ((input ++ piece) ++ rest)) (append-nil out) (rw (append-assoc input piece rest) (then (steps-run before (piece ++ rest) (λ e. absurd (true≢false (sym e)))) (reads piece here)))
+
+-- Some steps have led here.
+pub record SoFar (last : Bool) (st : State) (s : Sheet) (buffer : List ℕ) : Type 0 where
+  pub input : List ℕ
+  pub out : List ℕ
+  pub steps : Steps last st s buffer input out
+
+pub at-start : SoFar false start newSheet []
+at-start = record { input = []; out = []; steps = none }
+
+-- Once the S line is written, what was written is the program's output for what was read, whatever may still come.
+pub at-end : {last : Bool} {st : State} {s : Sheet} {buffer : List ℕ} (k : SoFar last st s buffer) → st .written ≡ true → (rest : List ℕ) → (last ≡ true → rest ≡ []) → k .out ≡ program (k .input ++ rest)
+at-end {last} {st} {s} {buffer} k w rest end = chunks (place st s buffer rest) (k .input ++ rest) (k .out) (steps-run (k .steps) rest end) w
+
+-- ---- the steps as the loop makes them, with the buffers' places `at` and `have`
+
+-- What is left of a chunk.
+left : (buf : List ℕ) (at have used : ℕ) → at + used ≤ have → have ≤ length buf → drop used (take (have - at) (drop at buf)) ≡ take (have - (at + used)) (drop (at + used) buf)
+left buf at have used h l =
+    let n = have - (at + used) in
+    let sizes : have - at ≡ used + n = omega arith in
+    ap (λ k. drop used (take k (drop at buf))) sizes
+    ∙ ap (drop used) (take-add used n (drop at buf))
+    ∙ drop-at (take used (drop at buf)) (take n (drop used (drop at buf))) used (length-take-le used (drop at buf) (omega (arith, length-drop at buf)))
+    ∙ ap (take n) (drop-drop used at buf)
+
+-- A call on the bytes from `at` up to `have`, and a write of the front of `after`, the output's buffer.
+pub after-write : (last : Bool) (st : State) (s : Sheet) (buf : List ℕ) (at have : ℕ) (before after : List ℕ) (r : Fed) (whole : Bool) → (let chunk = take (have - at) (drop at buf) in Feeds (feedCall last st s chunk (length before)) before after r → at + r .used ≤ have → have ≤ length buf → whole ≡ true → SoFar last st s chunk → SoFar last (r .state) (r .sheet) (take (have - (at + r .used)) (drop (at + r .used) buf)))
+unfolding put
+after-write last st s buf at have before after r whole f h l w k =
+    let call = feedCall last st s (take (have - at) (drop at buf)) (length before) in
+    let n = length (call .output) in
+    let written : take n after ≡ call .output = ap (take n) (f .buffer) ∙ take-at (call .output) (drop (0 + n) before) n refl in
+    let used : r .used ≡ call .used = ap (λ (r : Fed). r .used) (f .answer) in
+    subst (λ (r : Fed). SoFar last (r .state) (r .sheet) (take (have - (at + r .used)) (drop (at + r .used) buf))) (sym (f .answer))
+    (subst (SoFar last (call .state) (call .sheet)) (left buf at have (call .used) (omega arith) l)
+    (record { input = k .input; out = k .out ++ take n after; steps = called (length before) call (take n after) whole refl written w (k .steps) }))
+
+-- The bytes from `from` up to `to` are moved to the front, and a read adds to them.
+pub after-read : (st : State) (s : Sheet) (buf moved after : List ℕ) (from to n : ℕ) (r : Received) → (let bytes = take (to - from) (drop from buf) in to ≤ length buf → n ≡ to - from → moved ≡ put buf 0 bytes → take n after ≡ take n moved → n + r .size ≤ length after → r .failed ≡ false → SoFar false st s bytes → SoFar (eqb (r .size) 0) st s (take (n + r .size - 0) (drop 0 after)))
+unfolding put
+after-read st s buf moved after from to n r l e m t h f k =
+    let bytes = take (to - from) (drop from buf) in
+    let piece = take (r .size) (drop n after) in
+    let front : take n after ≡ bytes = t ∙ ap (take n) m ∙ take-at bytes (drop (0 + length bytes) buf) n (mid-len from to buf l ∙ sym e) in
+    let sum : n + r .size - 0 ≡ n + r .size = omega arith in
+    let all : bytes ++ piece ≡ take (n + r .size - 0) after = ap (λ b. b ++ piece) (sym front) ∙ sym (take-add n (r .size) after) ∙ ap (λ i. take i after) (sym sum) in
+    subst (SoFar (eqb (r .size) 0) st s) all
+    (record { input = k .input ++ piece; out = k .out; steps = received r piece f (length-take-le (r .size) (drop n after) (omega (arith, length-drop n after))) (k .steps) })
