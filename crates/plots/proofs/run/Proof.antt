@@ -19,12 +19,12 @@ use Rattle.plots.proofs.run.Tie as tie
 
 -- What a turn keeps.
 record Kept (buf₀ out₀ buf out : List ℕ) (state : State) (sheet : Sheet) (at have : ℕ) (last : Bool) : Type 0 where
+  so-far : SoFar last state sheet (take (have - at) (drop at buf))
   order : at ≤ have
   inside : have ≤ length buf
   buf-size : length buf ≡ length buf₀
   out-size : length out ≡ length out₀
   sound : Sound state sheet
-  so-far : SoFar last state sheet (take (have - at) (drop at buf))
 
 abbrev Inv-loop : tie.InvT-loop
 Inv-loop buf₀ out₀ state₀ sheet₀ at₀ have₀ last₀ buf out state sheet at have last = Kept buf₀ out₀ buf out state sheet at have last
@@ -78,7 +78,8 @@ so-far c =
     let l = loop-of (feed-of c) .loop in
     let f = feed-of c .feed in
     let w = c .before .before .before .before .write-all in
-    after-write (l .last) (l .state) (l .sheet) (l .buf) (l .at) (l .have) (l .out) (f .last .1 .1 .1 .1 .0) (f .result) (w .result) (f .ensures) (omega (arith, after-feed (feed-of c) .taken, l .inv .order)) (l .inv .inside) (not-false (w .result) (c .before .before .before .if1 .left)) (l .inv .so-far)
+    let whole : w .result ≡ true = not-false (w .result) (c .before .before .before .if1 .left) in
+    after-write (l .last) (l .state) (l .sheet) (l .buf) (l .at) (l .have) (l .out) (f .last .1 .1 .1 .1 .0) (f .result) (w .result) (f .ensures) (omega (arith, after-feed (feed-of c) .taken, l .inv .order)) (l .inv .inside) whole (l .inv .so-far)
 
 -- Where the loop returns because the S line is written: what was written is the program's output for what was read, whatever may still come.
 all-written : (c : tie.Then2 Inv-loop μ-loop) → (let k = so-far (c .before) in (rest : List ℕ) → (loop-of (feed-of (c .before)) .loop .last ≡ true → rest ≡ []) → k .out ≡ program (k .input ++ rest))
@@ -112,12 +113,12 @@ new-sheet-requires c κs = search needs
 loop-holds : tie.Need-loop-holds Inv-loop μ-loop
 loop-holds c =
     record {
+      so-far = rw (c .before .start .ensures, c .new-sheet .ensures) at-start;
       order = omega arith;
       inside = omega arith;
       buf-size = refl;
       out-size = refl;
       sound = rw (c .before .start .ensures, c .new-sheet .ensures) start-sound;
-      so-far = rw (c .before .start .ensures, c .new-sheet .ensures) at-start;
     }
 
 sub-feed : tie.Need-sub-feed Inv-loop μ-loop
@@ -187,12 +188,12 @@ loop-again c =
     let f = feed-of (c .before .before) in
     let l = loop-of f .loop in
     record {
+      so-far = so-far (c .before .before);
       order = omega (arith, after-feed f .taken, l .inv .order);
       inside = l .inv .inside;
       buf-size = l .inv .buf-size;
       out-size = room f ∙ l .inv .out-size;
       sound = after-feed f .sound;
-      so-far = so-far (c .before .before);
     }
 
 shift-requires : tie.Need-shift-requires Inv-loop μ-loop
@@ -243,12 +244,12 @@ loop-again-2 c =
     let i = read-inside (read-of c) in
     let fed = subst (λ b. SoFar b (r .state) (r .sheet) (take (l .have - (l .at + r .used)) (drop (l .at + r .used) (l .buf)))) (after-shift k .not-last) (so-far (carried-of k)) in
     record {
+      so-far = after-read (r .state) (r .sheet) (l .buf) (k .shift .last .0) (m .last .0) (l .at + r .used) (l .have) (k .shift .result) (m .result) (l .inv .inside) (k .shift .ensures .0) (k .shift .ensures .1) (m .ensures .1 .1) (omega (arith, i .0, i .1)) (c .before .before .if4 .left) fed;
       order = omega arith;
       inside = omega (arith, i .0, i .1);
       buf-size = m .kept .0 ∙ k .shift .kept .0 ∙ l .inv .buf-size;
       out-size = room f ∙ l .inv .out-size;
       sound = after-feed f .sound;
-      so-far = after-read (r .state) (r .sheet) (l .buf) (k .shift .last .0) (m .last .0) (l .at + r .used) (l .have) (k .shift .result) (m .result) (l .inv .inside) (k .shift .ensures .0) (k .shift .ensures .1) (m .ensures .1 .1) (omega (arith, i .0, i .1)) (c .before .before .if4 .left) fed;
     }
 
 pub run-spec : {M : Type 1} → statement M
