@@ -1,7 +1,7 @@
 -- What the program's loop has read and written so far. No contract can speak of what a C function reads or writes; so the invariant of `run` holds the steps that
 -- the loop has done, and once the S line is written they give document 01's output for what was read (`at-end`).
 use Prim.Native.Nat.{ℕ, _+_, _-_, _≤_}
-use mathlib.Core.Path.{_≡_, refl, sym, ap, ap₂, subst, _∙_}
+use mathlib.Core.Path.{_≡_, refl, sym, ap, subst, _∙_}
 use mathlib.Core.Bool.{Bool, true, false, true≢false}
 use mathlib.Core.List.{List, [], _++_, append-assoc, append-nil}
 use native.Mathlib.Omega.{arith}

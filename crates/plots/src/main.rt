@@ -61,7 +61,8 @@ fn report_unwritten() {
 }
 
 // All that a call has put is written. Where it has left room for another line, it has done what it could, and only reading helps. (proofs/Turns shows that this comes
-// to an end, with 10 if not before.) An S line means that all of the input was seen: none follows a read or a write that failed.
+// to an end, with 10 if not before; proofs/SoFar, that what is written up to the S line is the output for what was read.) An S line means that all of the input was
+// seen: none follows a read or a write that failed.
 fn run(buf: &mut [u8], out: &mut [u8])
     requires { ⌜ 65536 ≡ length (now buf) ⌝ }
     requires { ⌜ 65536 ≡ length (now out) ⌝ }

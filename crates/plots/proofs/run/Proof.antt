@@ -1,7 +1,7 @@
 -- `plots::run` meets its contract: it is safe, and ends for every input. Its loop keeps the steps that it has done, and `all-written` says what they come to.
 use Prim.Native.Nat.{ℕ, _+_, _-_, _≤_}
 use mathlib.Core.Path.{_≡_, refl, sym, subst, _∙_}
-use mathlib.Core.Bool.{Bool, true, false}
+use mathlib.Core.Bool.{Bool, true}
 use mathlib.Core.List.{List, [], _++_}
 use native.Mathlib.Omega.{arith}
 use lib.ListN.{length, take, drop}
@@ -94,7 +94,7 @@ after-shift c =
     subst (BeforeRead (l .last) (l .state) (l .have - l .at) (f .feed .result .state)) left
     (after-feed f .reads (omega (arith, c .before .before .if3 .left, room f)) (c .before .before .before .if2 .left))
 
--- A read has room, and what it puts is in the buffer.
+-- What a read puts is in the buffer.
 read-inside : (c : tie.After-read-after Inv-loop μ-loop) → (let k = shift-of c in let size = c .read-after .result .size in (k .shift .result + size ≤ 65_536) × (length (c .read-after .last .0) ≡ 65_536))
 read-inside c =
     let k = shift-of c in
@@ -136,6 +136,7 @@ feed-requires c κs = search needs
 slice-reshare-prefix-write-all : tie.Need-slice-reshare-prefix-write-all Inv-loop μ-loop
 slice-reshare-prefix-write-all c = omega (arith, after-feed (c .before .before) .written)
 
+-- Lent to `write_all` is the front that the call has put, as `after-write` has it.
 slice-aggregate-write-all : tie.Need-slice-aggregate-write-all Inv-loop μ-loop
 slice-aggregate-write-all c =
     let f = c .before .before .before in
