@@ -1,5 +1,4 @@
--- What the program's loop has read and written so far. No contract can speak of what a C function reads or writes; so the invariant of `run` holds the steps that
--- the loop has done, and once the S line is written they give document 01's output for what was read (`at-end`).
+-- What the program's loop has read and written so far: the steps of specs/LoopSteps are a run of text/Chunks, and each turn of the loop adds to them.
 use Prim.Native.Nat.{ℕ, _+_, _-_, _≤_}
 use mathlib.Core.Path.{_≡_, refl, sym, ap, subst, _∙_}
 use mathlib.Core.Bool.{Bool, true, false, true≢false}
@@ -13,20 +12,13 @@ use Rattle.outline.specs.declared.Sheet.{Sheet}
 use Rattle.outline.specs.WalkCalls.{newSheet}
 use Rattle.printing.specs.Put.{put}
 use Rattle.text.specs.declared.State.{State}
-use Rattle.text.specs.Program.{program}
-use Rattle.text.specs.Stream.{Step, start, feedCall}
-use Rattle.text.proofs.Chunks.{Place, Run, here, reads, feeds, chunks}
+use Rattle.text.specs.Stream.{start, feedCall}
+use Rattle.text.specs.Chunks.{Place, Run, here, reads, feeds}
+use Rattle.text.proofs.Chunks.{chunks}
 use Rattle.stream.specs.declared.Fed.{Fed}
 use Rattle.stream.specs.Feeding.{Feeds}
 use Rattle.plots.specs.declared.Received.{Received}
-
--- The steps that lead to a state, a sheet and a buffer of bytes not taken yet, where `input` was read and `out` was written. `last`: the input has ended.
-pub data Steps : Bool → State → Sheet → List ℕ → List ℕ → List ℕ → Type 0 where
-  none : Steps false start newSheet [] [] []
-  -- A call, on the state and the sheet that the call before it left, and a write of what it put. A write that does not answer true may have written less.
-  called : {last : Bool} {st : State} {s : Sheet} {buffer input out : List ℕ} (room : ℕ) (r : Step) (text : List ℕ) (whole : Bool) → r ≡ feedCall last st s buffer room → text ≡ r .output → whole ≡ true → Steps last st s buffer input out → Steps last (r .state) (r .sheet) (drop (r .used) buffer) input (out ++ text)
-  -- A read that did not fail, to after the bytes of the buffer. One that gives none has found the end of the input.
-  received : {st : State} {s : Sheet} {buffer input out : List ℕ} (r : Received) (piece : List ℕ) → r .failed ≡ false → length piece ≡ r .size → Steps false st s buffer input out → Steps (eqb (r .size) 0) st s (buffer ++ piece) (input ++ piece) out
+use Rattle.plots.specs.LoopSteps.{LoopSteps, none, called, received, AllWritten}
 
 -- ---- steps are a run of text/Chunks
 
@@ -40,7 +32,7 @@ abbrev place : State → Sheet → List ℕ → List ℕ → Place
 place st s buffer rest = record { state = st; sheet = s; buffer = buffer; unread = rest }
 
 -- Whatever may still come; after the end of the input nothing does.
-steps-run : {last : Bool} {st : State} {s : Sheet} {buffer input out : List ℕ} → Steps last st s buffer input out → (rest : List ℕ) → (last ≡ true → rest ≡ []) → Run (place st s buffer rest) start newSheet [] (input ++ rest) out
+steps-run : {last : Bool} {st : State} {s : Sheet} {buffer input out : List ℕ} → LoopSteps last st s buffer input out → (rest : List ℕ) → (last ≡ true → rest ≡ []) → Run (place st s buffer rest) start newSheet [] (input ++ rest) out
 steps-run none rest end = here
 steps-run (called {last} {st} {s} {buffer} {input} {out} room r text whole e t w before) rest end =
     subst (λ l. Run (place (r .state) (r .sheet) (drop (r .used) buffer) rest) start newSheet [] (input ++ rest) (out ++ l)) (append-nil (r .output) ∙ sym t) (then (steps-run before rest end) (feeds last room r end e here))
@@ -51,14 +43,13 @@ steps-run (received {st} {s} {buffer} {input} {out} r piece f l before) rest end
 pub record SoFar (last : Bool) (st : State) (s : Sheet) (buffer : List ℕ) : Type 0 where
   pub input : List ℕ
   pub out : List ℕ
-  pub steps : Steps last st s buffer input out
+  pub steps : LoopSteps last st s buffer input out
 
 pub at-start : SoFar false start newSheet []
 at-start = record { input = []; out = []; steps = none }
 
--- Once the S line is written, what was written is the program's output for what was read, whatever may still come.
-pub at-end : {last : Bool} {st : State} {s : Sheet} {buffer : List ℕ} (k : SoFar last st s buffer) → st .written ≡ true → (rest : List ℕ) → (last ≡ true → rest ≡ []) → k .out ≡ program (k .input ++ rest)
-at-end {last} {st} {s} {buffer} k w rest end = chunks (place st s buffer rest) (k .input ++ rest) (k .out) (steps-run (k .steps) rest end) w
+pub all-written : AllWritten
+all-written last st s buffer input out steps w rest end = chunks (place st s buffer rest) (input ++ rest) out (steps-run steps rest end) w
 
 -- ---- the steps as the loop makes them, with the buffers' places `at` and `have`
 

@@ -1,4 +1,4 @@
--- `plots::run` meets its contract: it is safe, and ends for every input. Its loop keeps the steps that it has done, and `all-written` says what they come to.
+-- `plots::run` meets its contract: it is safe, and ends for every input. Its loop keeps the steps that it has done, and `at-return` says what they come to.
 use Prim.Native.Nat.{ℕ, _+_, _-_, _≤_}
 use mathlib.Core.Path.{_≡_, refl, sym, subst, _∙_}
 use mathlib.Core.Bool.{Bool, true}
@@ -13,7 +13,7 @@ use Rattle.outline.specs.declared.Sheet.{Sheet}
 use Rattle.text.specs.declared.State.{State}
 use Rattle.text.specs.Program.{program}
 use Rattle.plots.proofs.Turns.{toDo, Sound, start-sound, BeforeRead, AfterCall, after-call}
-use Rattle.plots.proofs.SoFar.{SoFar, at-start, at-end, after-write, after-read}
+use Rattle.plots.proofs.SoFar.{SoFar, at-start, all-written, after-write, after-read}
 use Rattle.plots.proofs.run.Statement.{statement}
 use Rattle.plots.proofs.run.Tie as tie
 
@@ -82,8 +82,8 @@ so-far c =
     after-write (l .last) (l .state) (l .sheet) (l .buf) (l .at) (l .have) (l .out) (f .last .1 .1 .1 .1 .0) (f .result) (w .result) (f .ensures) (omega (arith, after-feed (feed-of c) .taken, l .inv .order)) (l .inv .inside) whole (l .inv .so-far)
 
 -- Where the loop returns because the S line is written: what was written is the program's output for what was read, whatever may still come.
-all-written : (c : tie.Then2 Inv-loop μ-loop) → (let k = so-far (c .before) in (rest : List ℕ) → (loop-of (feed-of (c .before)) .loop .last ≡ true → rest ≡ []) → k .out ≡ program (k .input ++ rest))
-all-written c = at-end (so-far (c .before)) (c .if2 .taken)
+at-return : (c : tie.Then2 Inv-loop μ-loop) → (let k = so-far (c .before) in (rest : List ℕ) → (loop-of (feed-of (c .before)) .loop .last ≡ true → rest ≡ []) → k .out ≡ program (k .input ++ rest))
+at-return c = let k = so-far (c .before) in all-written _ _ _ _ (k .input) (k .out) (k .steps) (c .if2 .taken)
 
 -- Where the bytes that are left stand at the front.
 after-shift : (c : tie.After-shift Inv-loop μ-loop) → (let f = feed-of (carried-of c) in let l = loop-of f .loop in BeforeRead (l .last) (l .state) (l .have - l .at) (f .feed .result .state) (c .shift .result))
@@ -169,7 +169,7 @@ same-length-4 : tie.Need-same-length-4 Inv-loop μ-loop
 same-length-4 c = search needs
 
 returns-2 : tie.Need-returns-2 Inv-loop μ-loop
-returns-2 c = let k = all-written c in search needs
+returns-2 c = let k = at-return c in search needs
 
 sub-if3 : tie.Need-sub-if3 Inv-loop μ-loop
 sub-if3 c =
