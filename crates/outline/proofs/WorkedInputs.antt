@@ -1,4 +1,4 @@
--- Positions, totals, walks and sheets that the worked facts are computed at.
+-- Positions, totals, walks, sheets and a map that the worked facts are computed at.
 use mathlib.Core.Bool.{true, false}
 use mathlib.Core.List.{List, [], _∷_}
 use Prim.Native.Nat.{ℕ}
@@ -6,6 +6,7 @@ use lib.IntN.{ℤ, pos}
 use Rattle.outline.specs.declared.Position.{Position}
 use Rattle.outline.specs.declared.Totals.{Totals}
 use Rattle.outline.specs.declared.Sizes.{Sizes}
+use Rattle.outline.specs.declared.AffineMap.{AffineMap}
 use Rattle.outline.specs.declared.Walk.{Walk}
 use Rattle.outline.specs.declared.Sheet.{Sheet}
 use Rattle.outline.specs.WalkCalls.{origin}
@@ -41,3 +42,7 @@ leftover = record { is_open = false; count = 7; first = at (pos 1) (pos 2); last
 
 abbrev pub sheetOf : ℕ → Totals → Sheet
 sheetOf n t = record { count = n; totals = t }
+
+-- The map that doubles.
+abbrev pub doubling : AffineMap
+doubling = record { a = pos 2; b = pos 0; g = pos 0; h = pos 2; e = pos 0; f = pos 0 }

@@ -12,7 +12,8 @@ use Rattle.outline.specs.EdgeSums.{zeros, over, exceed}
 use Rattle.outline.specs.ListCall.{points, outside, anyOutside, wrongLength, listCall}
 use Rattle.outline.specs.MapCall.{disallowed, mapCall}
 use Rattle.outline.specs.WalkCalls.{origin, opened, closed, newSheet, extended, unsoundWalk, unsoundSheet, pointCall, endCall, abandonCall}
-use Rattle.outline.proofs.WorkedInputs.{at, eachAlone, openWith, openOf, sheetOf}
+use Rattle.outline.proofs.PiecesLaws.{identity}
+use Rattle.outline.proofs.WorkedInputs.{at, eachAlone, openWith, openOf, sheetOf, doubling}
 
 -- ---- the six totals
 
@@ -52,7 +53,7 @@ unfolding over exceed unsoundWalk unsoundSheet endCall
 sheet-limit = record { greatest = refl; least = refl; above = refl; below = refl }
 
 -- 4: the outline bounds, under the map that moves nothing.
-map-bounds : Limited (λ t. mapCall (record { a = pos 1; b = pos 0; g = pos 0; h = pos 1; e = pos 0; f = pos 0 }) t .number) outlineSizes 0 4
+map-bounds : Limited (λ t. mapCall identity t .number) outlineSizes 0 4
 unfolding over exceed disallowed mapCall
 map-bounds = record { greatest = refl; least = refl; above = refl; below = refl }
 
@@ -70,7 +71,7 @@ filled = record { up = refl; down = refl }
 
 -- 5: doubled, a second moment is 16 times as large: 10^18 is taken, and 10^18 + 16 is not. (A2, X6 and Y6 that 4 takes are never mapped so far.)
 abbrev doubled : (ℕ → ℤ) → ℕ → List ℕ
-doubled f n = map (λ t. mapCall (record { a = pos 2; b = pos 0; g = pos 0; h = pos 2; e = pos 0; f = pos 0 }) t .number) (drop 3 (eachAlone f (same n)))
+doubled f n = map (λ t. mapCall doubling t .number) (drop 3 (eachAlone f (same n)))
 
 record Mapped : Type 0 where
   up : doubled pos 62_500_000_000_000_000 ++ doubled pos 62_500_000_000_000_001 ≡ replicate 3 0 ++ replicate 3 5

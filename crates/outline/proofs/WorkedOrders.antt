@@ -13,7 +13,7 @@ use Rattle.outline.specs.EdgeSums.{zeros, over, exceed}
 use Rattle.outline.specs.ListCall.{points, outside, anyOutside, wrongLength, listCall}
 use Rattle.outline.specs.MapCall.{disallowed, mapCall}
 use Rattle.outline.specs.WalkCalls.{origin, closed, newSheet, unsoundWalk, unsoundSheet, beginCall, pointCall, endCall, abandonCall}
-use Rattle.outline.proofs.WorkedInputs.{at, area, openOf, sheetOf}
+use Rattle.outline.proofs.WorkedInputs.{at, area, openOf, sheetOf, doubling}
 
 -- A point that 1 refuses.
 abbrev far : Position
@@ -95,12 +95,9 @@ list = refl
 
 -- ---- Order 3, 4, 5.
 
--- Three times and twice as large.
+-- Three times as large.
 abbrev trebling : AffineMap
 trebling = record { a = pos 3; b = pos 0; g = pos 0; h = pos 3; e = pos 0; f = pos 0 }
-
-abbrev doubling : AffineMap
-doubling = record { a = pos 2; b = pos 0; g = pos 0; h = pos 2; e = pos 0; f = pos 0 }
 
 -- A second moment at its outline bound, and one past it.
 abbrev large : Totals
