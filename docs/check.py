@@ -8,7 +8,8 @@ In NUMBERS.md every figure must be one that is recomputed:
   and is tried on every line of the page and on made-up outlines and regions;
 - a table after a comment `terms`, `map`, `edges` or `loops`; a block `runs` or `map`.
 A digit anywhere else is an error. README.md: its example, crates, limits and refusals. ARCHITECTURE.md: the picture
-of the layers has every crate, above all that it rests on. The pictures are made again and compared.
+of the layers has every crate, above all that it rests on. CLAIMS.md: the lines of definitions. The pictures are made
+again and compared.
 """
 import argparse
 import re
@@ -92,6 +93,16 @@ def check_layers():
             expect(rows.get(name, -1) < rows.get(other, -1), "docs/ARCHITECTURE.md", f"{name} rests on {other} and is not drawn above it")
 
 
+def check_definitions():
+    """CLAIMS.md: how many lines of definitions each crate has that has any."""
+    said = (DOCS / "CLAIMS.md").read_text().partition("In lines of `specs/*.antt`")[2].partition("\n- ")[0]
+    stated = {name: int(lines) for name, lines in re.findall(r"`(\w+)` (\d+)", said)}
+    lines = {}
+    for path in sorted((ROOT / "crates").glob("*/specs/*.antt")):
+        lines[path.parts[-3]] = lines.get(path.parts[-3], 0) + len(path.read_text().splitlines())
+    expect(stated == lines, "docs/CLAIMS.md", f"the lines of definitions are {lines}")
+
+
 def check_pictures():
     """The committed pictures are those that the examples give."""
     for name in pictures.PICTURES:
@@ -106,6 +117,7 @@ def main():
     Page(DOCS / "NUMBERS.md", plots).check()
     check_readme(plots)
     check_layers()
+    check_definitions()
     check_pictures()
     for path in (ROOT / "README.md", DOCS / "NUMBERS.md", DOCS / "ARCHITECTURE.md"):
         check_links(path)

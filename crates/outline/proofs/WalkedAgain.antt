@@ -18,7 +18,7 @@ directed-twice forwards t = refl
 directed-twice backwards t = simp negℤ-negℤ
 
 pub walked-again : WalkedAgain
-walked-again first second s q accepts-first accepts-second start direction m allowed bounds e =
+walked-again first second s accepts-first q accepts-second start direction m allowed bounds e =
     let r = reached first in
     let p = points-numbers (r .points) in
     let one = no-cut (numbers (r .points)) (endCall (r .walk) s .totals) (walked-outline first .same s accepts-first) start direction m allowed (ap (λ ps. anyOutside (moved m ps)) p ∙ bounds) in

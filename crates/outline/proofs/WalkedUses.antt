@@ -91,7 +91,7 @@ flat-pieces : AddUpMoved flat backwards (endCall (reached first .walk) newSheet 
 flat-pieces = walked-pieces first newSheet first-ends cuts starts backwards flat flat-allowed (in-bounds flat flat-bounds)
 
 mirrored-again : mapCall mirror (endCall (reached first .walk) newSheet .totals) ≡ accepted (directed backwards (endCall (reached second .walk) newSheet .totals))
-mirrored-again = walked-again first second newSheet newSheet first-ends second-ends 3 backwards mirror mirror-allowed (in-bounds mirror mirror-bounds) second-points
+mirrored-again = walked-again first second newSheet first-ends newSheet second-ends 3 backwards mirror mirror-allowed (in-bounds mirror mirror-bounds) second-points
 
 second-totals : directed backwards (endCall (reached second .walk) newSheet .totals) ≡ mirrored
 second-totals = ap (λ r. r .totals) (sym mirrored-again ∙ ap (mapCall mirror) first-totals ∙ mirror-answer)

@@ -46,33 +46,47 @@ WalkedPieces =
     (s : Sheet)
     -- with which the end is then accepted;
     → endCall (reached k .walk) s .number ≡ 0
-    -- for cuts, starts, direction and map as in PiecesAddUp,
+    -- for every list of cuts, of any length, those that cannot be made included;
     → (cuts : List Cut)
+    -- for every start in each piece, piece k from start k;
     → (start : ℕ → ℕ)
+    -- for either direction, the same for all pieces;
     → (direction : Direction)
+    -- for every map
     → (m : AffineMap)
+    -- that 3 does not refuse, d = 0 included,
     → disallowed m ≡ false
+    -- and that moves no point of the walk to where 1 refuses it:
     → anyOutside (moved m (reached k .points)) ≡ false
-    -- its claim holds of the pieces of the walk's points, and of the totals that the end answers.
+    -- the claim holds of the pieces of the walk's points, and of the totals that the end answers.
     → AddUpMoved m direction (endCall (reached k .walk) s .totals) (map (moved m) (placed direction start (piecesOf (reached k .points) cuts)))
 
 -- Demand 3's last sentence: no cut, only another start, the other direction or a map.
 abbrev pub WalkedAgain : Type 0
 WalkedAgain =
-    -- For every two walks, each made by calls from one marked closed,
-    (first second : Walking)
-    -- and every two sheets
-    (s q : Sheet)
-    -- with which their ends are accepted;
+    -- For every walk that calls from one marked closed have made,
+    (first : Walking)
+    -- every other such walk
+    (second : Walking)
+    -- and every sheet
+    (s : Sheet)
+    -- with which the first's end is accepted,
     → endCall (reached first .walk) s .number ≡ 0
+    -- and every sheet
+    → (q : Sheet)
+    -- with which the second's end is accepted;
     → endCall (reached second .walk) q .number ≡ 0
-    -- for every start, direction and map that 3 does not refuse and that moves no point to where 1 refuses it,
+    -- for every start,
     → (start : ℕ)
+    -- either direction
     → (direction : Direction)
+    -- and every map
     → (m : AffineMap)
+    -- that 3 does not refuse, d = 0 included,
     → disallowed m ≡ false
+    -- and that moves no point of the first to where 1 refuses it:
     → anyOutside (moved m (reached first .points)) ≡ false
-    -- if the second walk's points are the first's, so walked, started and moved,
+    -- if the second's points are the first's, so walked, started and moved,
     → reached second .points ≡ moved m (startAt start (walked direction (reached first .points)))
     -- the map call accepts the first end's totals, and answers the second's, with all six signs turned if walked backwards.
     → mapCall m (endCall (reached first .walk) s .totals) ≡ accepted (directed direction (endCall (reached second .walk) q .totals))

@@ -36,6 +36,7 @@ AllWritten =
     (input : List ℕ)
     -- and written on the way,
     (out : List ℕ)
+    -- by steps of the loop,
     → LoopSteps last st s buffer input out
     -- where the S line is written,
     → st .written ≡ true
@@ -43,4 +44,5 @@ AllWritten =
     → (rest : List ℕ)
     -- nothing if the end was found:
     → (last ≡ true → rest ≡ [])
+    -- what was written is the program's output for all of it.
     → out ≡ program (input ++ rest)

@@ -40,6 +40,7 @@ ChunksSoFar =
     (out : List ℕ)
     -- from the start, with a new sheet and nothing read yet:
     → Run p start newSheet [] input out
+    -- that, and what is still to be written there, is the program's output for the input.
     → out ++ remainingAt p ≡ program input
 
 -- A run that has written the S line: what is written is the program's output.
@@ -55,6 +56,7 @@ Chunks =
     → Run end start newSheet [] input out
     -- once the S line is written:
     → end .state .written ≡ true
+    -- that is the program's output for the input.
     → out ≡ program input
 
 -- The same where the input is cut off behind the byte that ends the reading.
@@ -70,6 +72,7 @@ ChunksWithin =
     → Run p start newSheet [] (take 33_000_001 input) out
     -- once the S line is written:
     → p .state .written ≡ true
+    -- that is the program's output for the input.
     → out ≡ program input
 
 -- From wherever a run has come to, it can go on until the S line is written. So there are runs of which `Chunks` speaks, for every input.

@@ -44,7 +44,7 @@ pub data Output : Trace → Sheet → List Line → List ℕ → Type 0 where
   -- A line within the limits, and then the others.
   near : {r left : Trace} {s kept : Sheet} {out rest : List ℕ} (l : Line) (ls : List Line) → tooFar l ≡ false → LinePrints r s l out left kept → Output left kept ls rest → Output r s (l ∷ ls) (out ++ rest)
 
--- The program's output is what the sentences allow,
+-- These cases give the program's output,
 abbrev pub LineByLine : Type 0
 LineByLine =
     -- whatever the input is,
@@ -52,13 +52,14 @@ LineByLine =
     -- from a closed walk and a new sheet on.
     → Output (from closed) newSheet (linesFrom 0 0 [] input) (program input)
 
--- and they allow no other,
+-- and no other.
 abbrev pub LineByLineOnly : Type 0
 LineByLineOnly =
-    -- whatever the input is
+    -- Whatever the input is,
     (input : List ℕ)
-    -- and whatever output there may be,
+    -- and whatever output
     (out : List ℕ)
-    -- if they allow it, from a closed walk and a new sheet on.
+    -- the cases give for it, from a closed walk and a new sheet on,
     → Output (from closed) newSheet (linesFrom 0 0 [] input) out
+    -- that is the program's.
     → out ≡ program input
