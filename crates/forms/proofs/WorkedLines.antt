@@ -1,29 +1,60 @@
--- Lines worked by computation: a point's line and lines of none of the forms, all in one list, then lines by their places in a chunk. A tab is 9, a minus 45, a digit d 48 + d.
+-- Lines worked by computation: lines of each form, lines of none, then lines by their places in a chunk. A tab is 9, a minus 45, a digit d 48 + d.
 use mathlib.Core.Path.{_≡_, refl}
 use mathlib.Core.List.{List, [], _∷_, map}
 use Prim.Native.Nat.{ℕ}
 use lib.IntN.{pos, negsuc}
-use Rattle.forms.specs.Grammar.{allDigits, valueFrom, leadingZero, isNatural, numberOf, negativeOf, naturalOf, fields, withFirst, letterOf, pointOf, isP, formOfFields, formOf, Form, begin, end, point, other}
+use lib.ListN.{replicate}
+use Rattle.forms.specs.Grammar.{allDigits, valueFrom, leadingZero, isNatural, numberOf, negativeOf, naturalOf, fields, withFirst, letterOf, pointOf, isP, formOfFields, formOf, Form, begin, end, abandon, point, other}
 use Rattle.forms.specs.ReadForm.{lineLength, noForm, formed, formAt}
 
 record Worked : Type 0 where
   line : List ℕ
   form : Form
 
--- P -12 7; P -0 7; P 00 7; P 10000 7; B and a carriage return; the empty line.
+-- P -12 7; P 9999 -9999; P 0 10; B; E; A.
 lines : List Worked
 lines =
     record { line = 80 ∷ 9 ∷ 45 ∷ 49 ∷ 50 ∷ 9 ∷ 55 ∷ []; form = point (negsuc 11) (pos 7) }
-    ∷ record { line = 80 ∷ 9 ∷ 45 ∷ 48 ∷ 9 ∷ 55 ∷ []; form = other }
-    ∷ record { line = 80 ∷ 9 ∷ 48 ∷ 48 ∷ 9 ∷ 55 ∷ []; form = other }
-    ∷ record { line = 80 ∷ 9 ∷ 49 ∷ 48 ∷ 48 ∷ 48 ∷ 48 ∷ 9 ∷ 55 ∷ []; form = other }
-    ∷ record { line = 66 ∷ 13 ∷ []; form = other }
-    ∷ record { line = []; form = other }
+    ∷ record { line = 80 ∷ 9 ∷ 57 ∷ 57 ∷ 57 ∷ 57 ∷ 9 ∷ 45 ∷ 57 ∷ 57 ∷ 57 ∷ 57 ∷ []; form = point (pos 9999) (negsuc 9998) }
+    ∷ record { line = 80 ∷ 9 ∷ 48 ∷ 9 ∷ 49 ∷ 48 ∷ []; form = point (pos 0) (pos 10) }
+    ∷ record { line = 66 ∷ []; form = begin }
+    ∷ record { line = 69 ∷ []; form = end }
+    ∷ record { line = 65 ∷ []; form = abandon }
     ∷ []
 
 worked : map (λ (w : Worked). formOf (w .line)) lines ≡ map (λ (w : Worked). w .form) lines
 unfolding lines formOf formOfFields fields withFirst isP letterOf numberOf negativeOf naturalOf isNatural allDigits leadingZero valueFrom pointOf
 worked = refl
+
+-- P -0 7; P 00 7; P 10000 7; P 7 01; P +1 7; P - 7; the bytes before 0 and after 9 for a number; no x; no y; P alone; a tab at the end; three numbers; Q 7 7; BB; b; B and a tab;
+-- B and a carriage return; B and a zero byte; the empty line.
+formless : List (List ℕ)
+formless =
+    (80 ∷ 9 ∷ 45 ∷ 48 ∷ 9 ∷ 55 ∷ [])
+    ∷ (80 ∷ 9 ∷ 48 ∷ 48 ∷ 9 ∷ 55 ∷ [])
+    ∷ (80 ∷ 9 ∷ 49 ∷ 48 ∷ 48 ∷ 48 ∷ 48 ∷ 9 ∷ 55 ∷ [])
+    ∷ (80 ∷ 9 ∷ 55 ∷ 9 ∷ 48 ∷ 49 ∷ [])
+    ∷ (80 ∷ 9 ∷ 43 ∷ 49 ∷ 9 ∷ 55 ∷ [])
+    ∷ (80 ∷ 9 ∷ 45 ∷ 9 ∷ 55 ∷ [])
+    ∷ (80 ∷ 9 ∷ 47 ∷ 9 ∷ 55 ∷ [])
+    ∷ (80 ∷ 9 ∷ 58 ∷ 9 ∷ 55 ∷ [])
+    ∷ (80 ∷ 9 ∷ 9 ∷ 55 ∷ [])
+    ∷ (80 ∷ 9 ∷ 55 ∷ [])
+    ∷ (80 ∷ [])
+    ∷ (80 ∷ 9 ∷ 55 ∷ 9 ∷ 55 ∷ 9 ∷ [])
+    ∷ (80 ∷ 9 ∷ 55 ∷ 9 ∷ 55 ∷ 9 ∷ 55 ∷ [])
+    ∷ (81 ∷ 9 ∷ 55 ∷ 9 ∷ 55 ∷ [])
+    ∷ (66 ∷ 66 ∷ [])
+    ∷ (98 ∷ [])
+    ∷ (66 ∷ 9 ∷ [])
+    ∷ (66 ∷ 13 ∷ [])
+    ∷ (66 ∷ 0 ∷ [])
+    ∷ []
+    ∷ []
+
+none : map formOf formless ≡ replicate 20 other
+unfolding formless formOf formOfFields fields withFirst isP letterOf numberOf negativeOf naturalOf isNatural allDigits leadingZero valueFrom pointOf
+none = refl
 
 -- The chunk of B, a newline and E, which nothing ends, by the places of the two lines and of the end.
 ends : map (formAt (66 ∷ 10 ∷ 69 ∷ [])) (0 ∷ 2 ∷ 3 ∷ []) ≡ record { form = begin; next = 2 } ∷ record { form = end; next = 4 } ∷ noForm ∷ []
