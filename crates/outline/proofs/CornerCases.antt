@@ -2,6 +2,7 @@
 use mathlib.Core.Path.{_≡_, refl}
 use mathlib.Core.Bool.{true, false}
 use mathlib.Core.List.{[], _∷_, map}
+use Prim.Native.Nat.{ℕ}
 use lib.IntN.{ℤ, pos, negsuc}
 use Rattle.outline.specs.declared.Totals.{Totals}
 use Rattle.outline.specs.declared.Walk.{Walk}
@@ -28,6 +29,16 @@ record Fresh : Type 0 where
 fresh : Fresh
 unfolding over exceed unsoundWalk beginCall abandonCall
 fresh = record { begun = refl; ended = refl; sheet = refl }
+
+-- ---- refusals answer zeros
+
+record Zeros : Type 0 where
+  list : listCall [] ≡ record { number = 2; totals = nothing }
+  end : endCall closed (sheetOf 9 (area 3)) ≡ record { number = 21; totals = nothing; walk = closed; sheet = sheetOf 9 (area 3) }
+
+refusals : Zeros
+unfolding over exceed points wrongLength listCall unsoundWalk unsoundSheet endCall
+refusals = record { list = refl; end = refl }
 
 -- ---- lists: 2 comes before 1, and the least i32 is outside the limits
 
@@ -63,7 +74,7 @@ sheets = record { too-many = refl; taken = refl }
 -- ---- an open walk of no points: its first and last are not looked at, its totals are
 
 abbrev pointless : Walk
-pointless = openWith 0 (at (pos 99_999) (negsuc 4)) origin zeros
+pointless = openWith 0 (at (pos 99_999) (negsuc 4)) (at (negsuc 4) (pos 99_999)) zeros
 
 record NoPoints : Type 0 where
   point : pointCall pointless (at (pos 3) (pos 4)) ≡ record { number = 0; walk = openWith 1 (at (pos 3) (pos 4)) (at (pos 3) (pos 4)) zeros }
@@ -75,6 +86,22 @@ record NoPoints : Type 0 where
 no-points : NoPoints
 unfolding over exceed outside extended unsoundWalk unsoundSheet beginCall pointCall endCall abandonCall
 no-points = record { point = refl; begin = refl; end = refl; abandon = refl; area-without-points = refl }
+
+-- ---- what an accepted call leaves of a walk handed in, its last point (9,9) not its first
+
+abbrev handed : ℕ → Walk
+handed n = openWith n (at (pos 1) (pos 2)) (at (pos 9) (pos 9)) (area 5)
+
+record Left : Type 0 where
+  -- the edge from (9,9) to (2,3) more
+  point : pointCall (handed 1) (at (pos 2) (pos 3)) ≡ record { number = 0; walk = openWith 2 (at (pos 1) (pos 2)) (at (pos 2) (pos 3)) (record { a2 = pos 14; x6 = pos 99; y6 = pos 108; xx12 = pos 927; xy24 = pos 1971; yy12 = pos 1053 }) }
+  -- the edge from (9,9) to (1,2) more
+  end : endCall (handed 3) (sheetOf 7 (area 2)) ≡ record { number = 0; totals = record { a2 = pos 14; x6 = pos 90; y6 = pos 99; xx12 = pos 819; xy24 = pos 1737; yy12 = pos 927 }; walk = closed; sheet = sheetOf 8 (record { a2 = pos 16; x6 = pos 90; y6 = pos 99; xx12 = pos 819; xy24 = pos 1737; yy12 = pos 927 }) }
+  abandon : abandonCall (handed 3) ≡ record { number = 0; walk = closed }
+
+left : Left
+unfolding over exceed outside extended unsoundWalk unsoundSheet pointCall endCall abandonCall
+left = record { point = refl; end = refl; abandon = refl }
 
 -- ---- walks handed in that no calls have made
 

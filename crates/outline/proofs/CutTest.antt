@@ -48,13 +48,18 @@ made pieces c e =
       record { apart = h-apart; inside = h-inside; rest = enough-left n (lower c) (higher c) h-apart h-inside (or-right beside closing apart-test) },
     )
 
--- The other way round, in document 01's words: the piece exists, both positions lie in it, and they are neither equal nor neighbours, last and first included.
-pub can-cut : (pieces : List Piece) (c : Cut) → (let n = length (getD pieces (c .piece) []) in c .piece < length pieces → c .one < n → c .other < n → c .one ≢ c .other → suc (lower c) ≢ higher c → (lower c ≡ 0 → suc (higher c) ≢ n) → canCut pieces c ≡ true)
+-- The other way round, by the two positions as they are named: the piece exists, both lie in it, they differ, neither follows the other, and they are not first and last.
+pub can-cut : (pieces : List Piece) (c : Cut) → (let n = length (getD pieces (c .piece) []) in c .piece < length pieces → c .one < n → c .other < n → c .one ≢ c .other → suc (c .one) ≢ c .other → suc (c .other) ≢ c .one → (c .one ≡ 0 → suc (c .other) ≢ n) → (c .other ≡ 0 → suc (c .one) ≢ n) → canCut pieces c ≡ true)
 unfolding canCut neighbours
-can-cut pieces c exists one other distinct apart apart-round =
+can-cut pieces c exists one other distinct after before first last =
     let n = length (getD pieces (c .piece) []) in
-    rw (lt-ltb (c .piece) (length pieces) exists, lt-ltb (c .one) n one, lt-ltb (c .other) n other, ne-eqb (c .one) (c .other) distinct, ne-eqb (suc (lower c)) (higher c) apart, not-closing (lower c) (higher c) n (eqb (lower c) 0) refl apart-round)
+    let apart : suc (lower c) ≢ higher c = λ e. omega arith in
+    rw (lt-ltb (c .piece) (length pieces) exists, lt-ltb (c .one) n one, lt-ltb (c .other) n other, ne-eqb (c .one) (c .other) distinct, ne-eqb (suc (lower c)) (higher c) apart, not-closing (eqb (lower c) 0) refl)
   where
-    not-closing : (l h n : ℕ) (b : Bool) → eqb l 0 ≡ b → (l ≡ 0 → suc h ≢ n) → (b && eqb (suc h) n) ≡ false
-    not-closing l h n true e f = ne-eqb (suc h) n (f (eqb-true l 0 e))
-    not-closing l h n false e f = refl
+    ends : (b : Bool) → eqb (c .one) 0 ≡ b → lower c ≡ 0 → suc (higher c) ≢ length (getD pieces (c .piece) [])
+    ends true e l h = let z = eqb-true (c .one) 0 e in first z (omega arith)
+    ends false e l h = let z = eqb-false (c .one) 0 e in last (omega arith) (omega arith)
+
+    not-closing : (b : Bool) → eqb (lower c) 0 ≡ b → (b && eqb (suc (higher c)) (length (getD pieces (c .piece) []))) ≡ false
+    not-closing true e = ne-eqb (suc (higher c)) (length (getD pieces (c .piece) [])) (ends (eqb (c .one) 0) refl (eqb-true (lower c) 0 e))
+    not-closing false e = refl

@@ -2,7 +2,7 @@
 -- on an open walk they do not.
 use mathlib.Core.Path.{_≡_, refl}
 use mathlib.Core.List.{List, [], _∷_}
-use lib.IntN.{pos, negℤ, _*ℤ_}
+use lib.IntN.{pos, negsuc, negℤ, _*ℤ_}
 use Rattle.integers.proofs.Ring.{ring, quote}
 use Rattle.outline.specs.declared.Position.{Position}
 use Rattle.outline.specs.declared.Totals.{Totals}
@@ -33,6 +33,11 @@ other-terms-law ps =
     (around-potential xx12-002 xx12 (λ a. negℤ (a .x *ℤ a .x *ℤ a .x *ℤ a .y)) (λ a b. ring (coordinates a b) (search quote depth 20) (search quote depth 20) tt) ps)
     refl
     (around-potential yy12-002 yy12 (λ a. a .x *ℤ a .y *ℤ a .y *ℤ a .y) (λ a b. ring (coordinates a b) (search quote depth 20) (search quote depth 20) tt) ps)
+
+-- The edge from (2, 3) to (7, 11) by source 002.
+one-edge-002 : totals-002 (record { start = record { x = pos 2; y = pos 3 }; end = record { x = pos 7; y = pos 11 } } ∷ []) ≡ record { a2 = pos 1; x6 = pos 536; y6 = negsuc 814; xx12 = pos 3816; xy24 = pos 209; yy12 = negsuc 9099 }
+unfolding sumOver
+one-edge-002 = refl
 
 -- From (2, 0) to (10, 4), still open: X6 is 96 by the table and 496 by source 002.
 abbrev openWalk : List Edge

@@ -14,6 +14,7 @@ use Rattle.outline.specs.EdgeSums.{outlineTotals, negated, over}
 use Rattle.outline.specs.ListCall.{accepted, points, numbers, anyOutside, listCall}
 use Rattle.outline.specs.MapCall.{movePoint, moved, disallowed, mapCall}
 use Rattle.outline.specs.Pieces.{Piece, Cut, cutAll, piecesOf, startAt, Direction, forwards, backwards, walked, placed, totalsOf, sumOf, directed}
+use Rattle.outline.specs.PiecesAddUp.{AddUpMoved}
 use Rattle.outline.proofs.TotalsLaws.{plus-zeros}
 use Rattle.outline.proofs.IndexLaws.{points-numbers}
 use Rattle.outline.proofs.Limits.{none-outside, accepts-only-outlines}
@@ -30,6 +31,12 @@ pub record AddUp (w : Direction) (t : Totals) (pieces : List Piece) : Type 0 whe
 only-piece : {w : Direction} {t : Totals} {p : Piece} → AddUp w t (p ∷ []) → listCall (numbers p) ≡ accepted (directed w t)
 unfolding sumOf
 only-piece {p = p} r = r .list-accepts p (List·Memᴰ·head refl) ∙ ap accepted (sym (plus-zeros (totalsOf p)) ∙ r .sum)
+
+-- ---- two cuttings of one outline
+
+-- Pieces of which the claim holds for the same map, direction and totals add up to the same.
+pub same-sum : {m : AffineMap} {w : Direction} {t : Totals} {pieces others : List Piece} → AddUpMoved m w t pieces → AddUpMoved m w t others → sumOf (map totalsOf pieces) ≡ sumOf (map totalsOf others)
+same-sum {w = w} one other = one .sum ∙ ap (λ r. directed w (r .totals)) (sym (one .map-accepts) ∙ other .map-accepts) ∙ sym (other .sum)
 
 -- ---- no cut
 

@@ -1,7 +1,7 @@
 -- Demand 3's statement used at one outline, so that a weaker statement, or a weaker definition of cuts, starts and directions, is refused here.
-use mathlib.Core.Path.{_≡_, refl, sym, _∙_, ap}
-use mathlib.Core.Bool.{false}
-use mathlib.Core.List.{List, [], _∷_, map, List·Memᴰ}
+use mathlib.Core.Path.{_≡_, refl, sym, _∙_, ap, subst}
+use mathlib.Core.Bool.{true, false}
+use mathlib.Core.List.{List, [], _∷_, map, List·Memᴰ, List·Memᴰ·head, List·Memᴰ·tail}
 use Prim.Native.Nat.{ℕ, zero, suc}
 use lib.IntN.{ℤ, pos, negsuc}
 use Rattle.outline.specs.declared.Totals.{Totals}
@@ -9,10 +9,11 @@ use Rattle.outline.specs.declared.AffineMap.{AffineMap}
 use Rattle.outline.specs.EdgeSums.{openEdges, edges, sumOver, over, exceed, zeros, negated}
 use Rattle.outline.specs.ListCall.{accepted, points, numbers, outside, anyOutside, wrongLength, listCall}
 use Rattle.outline.specs.MapCall.{moved, disallowed, mapCall}
-use Rattle.outline.specs.Pieces.{Piece, Cut, neighbours, canCut, cutOnce, cutAll, piecesOf, startAt, forwards, backwards, walked, placed, totalsOf, sumOf, directed}
+use Rattle.outline.specs.Pieces.{Piece, Cut, neighbours, canCut, cutOnce, cutAll, piecesOf, startAt, Direction, backwards, walked, placed, totalsOf, sumOf, directed}
 use Rattle.outline.specs.PiecesAddUp.{AddUpMoved}
 use Rattle.outline.proofs.WorkedInputs.{at}
 use Rattle.outline.proofs.PiecesAddUp.{pieces-add-up}
+use Rattle.outline.proofs.PiecesLaws.{same-sum, OnePiece, one-piece}
 
 -- ---- an outline, its pieces and their starts
 
@@ -38,6 +39,11 @@ cuts = cut 7 0 2 ∷ cut 0 2 0 ∷ cut 0 0 1 ∷ cut 1 3 0 ∷ cut 1 1 4 ∷ cut
 cut-pieces : piecesOf (points pentagon) cuts ≡ (at (pos 0) (pos 0) ∷ at (pos 4) (pos 0) ∷ at (pos 5) (pos 2) ∷ []) ∷ (at (pos 5) (pos 2) ∷ at (pos 2) (pos 4) ∷ at (pos 0) (pos 3) ∷ []) ∷ (at (pos 0) (pos 3) ∷ at (pos 0) (pos 0) ∷ at (pos 5) (pos 2) ∷ []) ∷ []
 unfolding points neighbours canCut cutOnce cutAll
 cut-pieces = refl
+
+-- Away from position 0: neighbours, and a cut between positions 1 and 3.
+cut-inside : piecesOf (points pentagon) (cut 0 1 2 ∷ cut 0 3 1 ∷ []) ≡ (at (pos 4) (pos 0) ∷ at (pos 5) (pos 2) ∷ at (pos 2) (pos 4) ∷ []) ∷ (at (pos 2) (pos 4) ∷ at (pos 0) (pos 3) ∷ at (pos 0) (pos 0) ∷ at (pos 4) (pos 0) ∷ []) ∷ []
+unfolding points neighbours canCut cutOnce cutAll
+cut-inside = refl
 
 -- Started at position 2, and the opposite order.
 started : startAt 2 (points pentagon) ≡ at (pos 5) (pos 2) ∷ at (pos 2) (pos 4) ∷ at (pos 0) (pos 3) ∷ at (pos 0) (pos 0) ∷ at (pos 4) (pos 0) ∷ []
@@ -90,7 +96,7 @@ flat-sum : sumOf (map totalsOf (map (moved flat) reversed)) ≡ negated zeros
 unfolding directed
 flat-sum = flat-use .sum ∙ ap (λ r. negated (r .totals)) (sym (flat-use .map-accepts) ∙ flat-answer)
 
--- ---- a map that mirrors, forwards
+-- ---- a map that mirrors, in either direction
 
 -- u = −x + y + 1, v = 2x + y − 3: d is −3.
 abbrev pub mirror : AffineMap
@@ -111,9 +117,38 @@ pub mirror-answer : mapCall mirror pentagonTotals ≡ accepted mirrored
 unfolding disallowed over exceed mapCall
 mirror-answer = refl
 
-mirror-use : AddUpMoved mirror forwards pentagonTotals (map (moved mirror) (placed forwards starts (piecesOf (points pentagon) cuts)))
-mirror-use = pieces-add-up pentagon pentagonTotals pentagon-taken cuts starts forwards mirror mirror-allowed mirror-bounds
+mirror-use : (direction : Direction) → AddUpMoved mirror direction pentagonTotals (map (moved mirror) (placed direction starts (piecesOf (points pentagon) cuts)))
+mirror-use direction = pieces-add-up pentagon pentagonTotals pentagon-taken cuts starts direction mirror mirror-allowed mirror-bounds
 
-mirror-sum : sumOf (map totalsOf (map (moved mirror) (placed forwards starts (piecesOf (points pentagon) cuts)))) ≡ mirrored
-unfolding directed
-mirror-sum = mirror-use .sum ∙ ap (λ r. r .totals) (sym (mirror-use .map-accepts) ∙ mirror-answer)
+mirror-sum : (direction : Direction) → sumOf (map totalsOf (map (moved mirror) (placed direction starts (piecesOf (points pentagon) cuts)))) ≡ directed direction mirrored
+mirror-sum direction = mirror-use direction .sum ∙ ap (λ r. directed direction (r .totals)) (sym (mirror-use direction .map-accepts) ∙ mirror-answer)
+
+-- ---- one piece, where the map moves another point of the outline out of the limits
+
+-- u = x + 1,996: (5,2) would go to 2,001.
+abbrev far : AffineMap
+far = record { a = pos 1; b = pos 0; g = pos 0; h = pos 1; e = pos 1996; f = pos 0 }
+
+abbrev corner : Piece
+corner = at (pos 0) (pos 3) ∷ at (pos 0) (pos 0) ∷ at (pos 4) (pos 0) ∷ []
+
+corner-cut : piecesOf (points pentagon) (cut 0 1 4 ∷ []) ≡ (at (pos 4) (pos 0) ∷ at (pos 5) (pos 2) ∷ at (pos 2) (pos 4) ∷ at (pos 0) (pos 3) ∷ []) ∷ corner ∷ []
+unfolding points neighbours canCut cutOnce cutAll
+corner-cut = refl
+
+far-allowed : disallowed far ≡ false
+unfolding disallowed over
+far-allowed = refl
+
+far-bounds : (anyOutside (moved far corner) ≡ false) × (anyOutside (moved far (points pentagon)) ≡ true)
+unfolding points over outside anyOutside
+far-bounds = (refl, refl)
+
+far-corner : OnePiece far backwards (totalsOf corner) (moved far (startAt 2 (walked backwards corner)))
+far-corner = one-piece pentagon pentagonTotals pentagon-taken (cut 0 1 4 ∷ []) corner (subst (List·Memᴰ corner) (sym corner-cut) (List·Memᴰ·tail (List·Memᴰ·head refl))) 2 backwards far far-allowed (far-bounds .0)
+
+-- ---- every outline
+
+-- Whatever the cuts and the starts, the pieces' totals add up to the same.
+any-cuts : (zs : List ℤ) (t : Totals) → listCall zs ≡ accepted t → (m : AffineMap) → disallowed m ≡ false → anyOutside (moved m (points zs)) ≡ false → (direction : Direction) (some others : List Cut) (start from : ℕ → ℕ) → sumOf (map totalsOf (map (moved m) (placed direction start (piecesOf (points zs) some)))) ≡ sumOf (map totalsOf (map (moved m) (placed direction from (piecesOf (points zs) others))))
+any-cuts zs t taken m allowed bounds direction some others start from = same-sum (pieces-add-up zs t taken some start direction m allowed bounds) (pieces-add-up zs t taken others from direction m allowed bounds)

@@ -40,6 +40,27 @@ map-zeros m t = go (disallowed m) (exceed outlineBounds t) (exceed totalLimits (
     go false false true n = refl
     go false false false n = absurd (n refl)
 
+-- 3 is the answer for exactly the maps that are not allowed, whatever the totals.
+pub first-3 : (m : AffineMap) (t : Totals) → disallowed m ≡ true → mapCall m t .number ≡ 3
+unfolding mapCall
+first-3 m t e = rw e
+
+pub not-3 : (m : AffineMap) (t : Totals) → mapCall m t .number ≢ 3 → disallowed m ≡ false
+not-3 m t n = go (disallowed m) refl
+  where
+    go : (b : Bool) → disallowed m ≡ b → disallowed m ≡ false
+    go true e = absurd (n (first-3 m t e))
+    go false e = e
+
+pub allowed-not-3 : (m : AffineMap) (t : Totals) → disallowed m ≡ false → mapCall m t .number ≢ 3
+unfolding mapCall
+allowed-not-3 m t e = rw e (go (exceed outlineBounds t) (exceed totalLimits (mapped m t)))
+  where
+    go : (b c : Bool) → cond b (refused 4) (cond c (refused 5) (accepted (mapped m t))) .number ≢ 3
+    go true c = λ h. omega arith
+    go false true = λ h. omega arith
+    go false false = λ h. omega arith
+
 -- ---- the calls on a walk
 
 -- A refused call of any kind leaves the walk as it was.

@@ -1,23 +1,26 @@
 -- The statements on walks and sheets used at two walks and one sheet, so that weaker statements are refused here.
 use mathlib.Core.Path.{_≡_, refl, sym, _∙_, ap}
 use mathlib.Core.Bool.{false}
-use mathlib.Core.List.{List, [], _∷_, map}
+use mathlib.Core.List.{List, [], _∷_, _++_, map, List·Memᴰ}
+use Prim.Native.Nat.{ℕ}
 use mathlib.Core.Logic.{_≢_}
 use native.Mathlib.Omega.{arith}
 use lib.ListN.{length}
 use lib.IntN.{pos, negsuc}
 use Rattle.outline.specs.declared.AffineMap.{AffineMap}
 use Rattle.outline.specs.declared.Walk.{Walk}
+use Rattle.outline.specs.declared.Sheet.{Sheet}
 use Rattle.outline.specs.EdgeSums.{openEdges, edges, sumOver, over, exceed, zeros, negated, outlineTotals}
 use Rattle.outline.specs.ListCall.{accepted, points, numbers, outside, anyOutside, listCall}
-use Rattle.outline.specs.MapCall.{moved, mapCall}
-use Rattle.outline.specs.Pieces.{piecesOf, startAt, backwards, walked, placed, sumOf, directed}
-use Rattle.outline.specs.WalkCalls.{origin, closed, newSheet, extended, unsoundWalk, unsoundSheet, beginCall, pointCall, endCall, abandonCall}
-use Rattle.outline.specs.CallLists.{begin, point, end, abandon, numberOf, walkAfter, unsoundSheetIn, pointsWith, next, after, walkOf, sheetAfter, addedBy, Walking, reached, outlinesOn}
+use Rattle.outline.specs.MapCall.{moved, disallowed, mapCall}
+use Rattle.outline.specs.Pieces.{Cut, piecesOf, startAt, Direction, backwards, walked, placed, totalsOf, sumOf, directed}
+use Rattle.outline.specs.WalkCalls.{origin, closed, newSheet, extended, sheetWith, unsoundWalk, unsoundSheet, beginCall, pointCall, endCall, abandonCall}
+use Rattle.outline.specs.CallLists.{begin, point, end, abandon, numberOf, walkAfter, unsoundSheetIn, pointsWith, next, after, from, walkOf, sheetAfter, addedBy, Walking, reached, outlinesOn}
 use Rattle.outline.specs.PiecesAddUp.{AddUpMoved}
-use Rattle.outline.specs.EveryOutline.{Room, Walkable}
+use Rattle.outline.specs.EveryOutline.{answers, Room, Walkable}
 use Rattle.outline.proofs.WorkedInputs.{at, openOf, leftover, sheetOf}
 use Rattle.outline.proofs.PiecesUses.{pentagon, pentagonTotals, pentagon-taken, cuts, starts, flat, flat-allowed, flat-bounds, mirror, mirrored, mirror-allowed, mirror-bounds, mirror-answer}
+use Rattle.outline.proofs.PiecesLaws.{same-sum}
 use Rattle.outline.proofs.WalkedOutline.{walked-outline, walked-pieces}
 use Rattle.outline.proofs.WalkedAgain.{walked-again}
 use Rattle.outline.proofs.SheetSums.{sheet-sums, walked-sheet-sums}
@@ -25,7 +28,7 @@ use Rattle.outline.proofs.EveryOutline.{every-outline}
 
 -- ---- two walks
 
--- The pentagon, with a refused call of each kind and a walk given up before it.
+-- The pentagon, with refused calls of all four kinds, and a walk abandoned before it.
 abbrev first : Walking
 first =
     record {
@@ -59,7 +62,23 @@ second-ends : endCall (reached second .walk) newSheet .number ≡ 0
 unfolding over exceed outside extended unsoundWalk unsoundSheet beginCall pointCall endCall abandonCall numberOf walkAfter pointsWith next after
 second-ends = refl
 
+-- The last place of a sheet whose totals the pentagon brings to 10^18.
+abbrev lastPlace : Sheet
+lastPlace = sheetOf 63 (record { a2 = pos 999_999_999_999_999_970; x6 = pos 999_999_999_999_999_804; y6 = pos 999_999_999_999_999_846; xx12 = pos 999_999_999_999_998_864; xy24 = pos 999_999_999_999_998_684; yy12 = pos 999_999_999_999_999_298 })
+
+first-ends-there : endCall (reached first .walk) lastPlace .number ≡ 0
+unfolding over exceed outside extended unsoundWalk unsoundSheet beginCall pointCall endCall abandonCall numberOf walkAfter pointsWith next after
+first-ends-there = refl
+
+-- An abandoned walk's points stay in the trace until the next begin.
+abandoned : after (from closed) (begin ∷ point origin ∷ abandon ∷ []) .points ≡ origin ∷ []
+unfolding over exceed outside extended unsoundWalk beginCall pointCall abandonCall numberOf walkAfter pointsWith next after
+abandoned = refl
+
 -- ---- walked outlines
+
+sound : unsoundWalk (reached first .walk) ≡ false
+sound = walked-outline first .sound
 
 never-28 : numberOf (reached first .walk) (end (sheetOf 64 zeros)) ≢ 28
 unfolding unsoundSheetIn unsoundSheet exceed over
@@ -79,19 +98,19 @@ computed : outlineTotals (points pentagon) ≡ pentagonTotals
 unfolding openEdges edges sumOver points
 computed = refl
 
-first-totals : endCall (reached first .walk) newSheet .totals ≡ pentagonTotals
-first-totals = edge-sums ∙ ap outlineTotals first-points ∙ computed
+first-totals : endCall (reached first .walk) lastPlace .totals ≡ pentagonTotals
+first-totals = walked-outline first .edge-sums lastPlace first-ends-there ∙ ap outlineTotals first-points ∙ computed
 
 -- ---- demand 3
 
 in-bounds : (m : AffineMap) → anyOutside (moved m (points pentagon)) ≡ false → anyOutside (moved m (reached first .points)) ≡ false
 in-bounds m h = ap (λ ps. anyOutside (moved m ps)) first-points ∙ h
 
-flat-pieces : AddUpMoved flat backwards (endCall (reached first .walk) newSheet .totals) (map (moved flat) (placed backwards starts (piecesOf (reached first .points) cuts)))
-flat-pieces = walked-pieces first newSheet first-ends cuts starts backwards flat flat-allowed (in-bounds flat flat-bounds)
+flat-pieces : AddUpMoved flat backwards (endCall (reached first .walk) lastPlace .totals) (map (moved flat) (placed backwards starts (piecesOf (reached first .points) cuts)))
+flat-pieces = walked-pieces first lastPlace first-ends-there cuts starts backwards flat flat-allowed (in-bounds flat flat-bounds)
 
-mirrored-again : mapCall mirror (endCall (reached first .walk) newSheet .totals) ≡ accepted (directed backwards (endCall (reached second .walk) newSheet .totals))
-mirrored-again = walked-again first second newSheet first-ends newSheet second-ends 3 backwards mirror mirror-allowed (in-bounds mirror mirror-bounds) second-points
+mirrored-again : mapCall mirror (endCall (reached first .walk) lastPlace .totals) ≡ accepted (directed backwards (endCall (reached second .walk) newSheet .totals))
+mirrored-again = walked-again first second lastPlace first-ends-there newSheet second-ends 3 backwards mirror mirror-allowed (in-bounds mirror mirror-bounds) second-points
 
 second-totals : directed backwards (endCall (reached second .walk) newSheet .totals) ≡ mirrored
 second-totals = ap (λ r. r .totals) (sym mirrored-again ∙ ap (mapCall mirror) first-totals ∙ mirror-answer)
@@ -128,11 +147,36 @@ outlines = refl
 walked-totals : sheetAfter newSheet (map (λ k. reached k .walk) walks) .totals ≡ sumOf (outlineTotals (reached first .points) ∷ outlineTotals (reached second .points) ∷ [])
 walked-totals = walked-sheet-sums walks .totals ∙ ap (λ os. sumOf (map outlineTotals os)) outlines
 
+walked-count : sheetAfter newSheet (map (λ k. reached k .walk) walks) .count ≡ 2
+walked-count = walked-sheet-sums walks .count ∙ ap (λ os. length (map outlineTotals os)) outlines
+
+walked-sound : unsoundSheet (sheetAfter newSheet (map (λ k. reached k .walk) walks)) ≡ false
+walked-sound = walked-sheet-sums walks .sound
+
 -- ---- the pentagon can be walked, also from the walk with leftover fields, and into the last place of a sheet
 
-last-place : Room (sheetOf 63 zeros) pentagonTotals
+last-place : Room lastPlace pentagonTotals
 unfolding unsoundSheet exceed over
 last-place = record { sound = refl; count = omega arith; totals = refl }
 
-pentagon-walked : Walkable leftover (points pentagon) (sheetOf 63 zeros) pentagonTotals
-pentagon-walked = every-outline pentagon pentagonTotals pentagon-taken leftover refl (sheetOf 63 zeros) last-place
+pentagon-walked : Walkable leftover (points pentagon) lastPlace pentagonTotals
+pentagon-walked = every-outline pentagon pentagonTotals pentagon-taken leftover refl lastPlace last-place
+
+none-refused : (n : ℕ) → List·Memᴰ n (answers leftover (begin ∷ map point (points pentagon) ++ end lastPlace ∷ [])) → n ≡ 0
+none-refused = pentagon-walked .none-refused
+
+taken : after (from leftover) (begin ∷ map point (points pentagon)) .points ≡ points pentagon
+taken = pentagon-walked .taken
+
+pentagon-ended : endCall (after (from leftover) (begin ∷ map point (points pentagon)) .walk) lastPlace ≡ record { number = 0; totals = pentagonTotals; walk = closed; sheet = sheetWith lastPlace pentagonTotals }
+pentagon-ended = pentagon-walked .ended
+
+-- ---- every walk
+
+-- Two walks with the same points have the same totals, whatever calls made them and whatever sheets they end on.
+same-points : (k l : Walking) (s q : Sheet) → endCall (reached k .walk) s .number ≡ 0 → endCall (reached l .walk) q .number ≡ 0 → reached k .points ≡ reached l .points → endCall (reached k .walk) s .totals ≡ endCall (reached l .walk) q .totals
+same-points k l s q e f same = walked-outline k .edge-sums s e ∙ ap outlineTotals same ∙ sym (walked-outline l .edge-sums q f)
+
+-- Whatever the cuts and the starts, the pieces' totals add up to the same.
+any-cuts : (k : Walking) (s : Sheet) → endCall (reached k .walk) s .number ≡ 0 → (m : AffineMap) → disallowed m ≡ false → anyOutside (moved m (reached k .points)) ≡ false → (direction : Direction) (some others : List Cut) (start from : ℕ → ℕ) → sumOf (map totalsOf (map (moved m) (placed direction start (piecesOf (reached k .points) some)))) ≡ sumOf (map totalsOf (map (moved m) (placed direction from (piecesOf (reached k .points) others))))
+any-cuts k s e m allowed bounds direction some others start from = same-sum (walked-pieces k s e some start direction m allowed bounds) (walked-pieces k s e others from direction m allowed bounds)

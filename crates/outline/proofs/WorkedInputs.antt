@@ -36,9 +36,9 @@ openWith n first last t = record { is_open = true; count = n; first = first; las
 abbrev pub openOf : ℕ → Totals → Walk
 openOf n t = openWith n origin origin t
 
--- Marked closed, with fields that no call leaves.
+-- Marked closed, with fields that no call leaves, and that 28 refuses of an open walk.
 abbrev pub leftover : Walk
-leftover = record { is_open = false; count = 7; first = at (pos 1) (pos 2); last = origin; totals = area 5 }
+leftover = record { is_open = false; count = 1025; first = at (pos 1) (pos 2); last = origin; totals = area 5 }
 
 abbrev pub sheetOf : ℕ → Totals → Sheet
 sheetOf n t = record { count = n; totals = t }

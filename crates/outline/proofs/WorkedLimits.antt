@@ -1,7 +1,8 @@
 -- Both sides of every limit of document 01 for lists, walks, sheets and maps, by computation from the definitions.
 use mathlib.Core.Path.{_≡_, refl}
 use mathlib.Core.List.{List, [], _∷_, _++_, map}
-use Prim.Native.Nat.{ℕ, suc}
+use mathlib.Core.Bool.{false}
+use Prim.Native.Nat.{ℕ, suc, _+_, _-_, _*_}
 use lib.IntN.{ℤ, pos, negsuc, negℤ}
 use lib.ListN.{replicate, drop}
 use Rattle.outline.specs.declared.Position.{Position}
@@ -69,6 +70,11 @@ filled : Filled
 unfolding over exceed outside unsoundWalk unsoundSheet endCall
 filled = record { up = refl; down = refl }
 
+-- The closing edge, from (0,1) to (1,0), adds -1 to each total: 26 looks at the sums with it.
+with-closing-edge : map (λ t. endCall (openWith 3 (at (pos 1) (pos 0)) (at (pos 0) (pos 1)) t) (sheetOf 0 (nearly (pos 1_000_000_000_000_000_000))) .number) (eachAlone pos (same 1) ++ eachAlone pos (same 2)) ≡ replicate 6 0 ++ replicate 6 26
+unfolding over exceed outside unsoundWalk unsoundSheet endCall
+with-closing-edge = refl
+
 -- 5: doubled, a second moment is 16 times as large: 10^18 is taken, and 10^18 + 16 is not. (A2, X6 and Y6 that 4 takes are never mapped so far.)
 abbrev doubled : (ℕ → ℤ) → ℕ → List ℕ
 doubled f n = map (λ t. mapCall doubling t .number) (drop 3 (eachAlone f (same n)))
@@ -80,6 +86,26 @@ record Mapped : Type 0 where
 mapped : Mapped
 unfolding over exceed disallowed mapCall
 mapped = record { up = refl; down = refl }
+
+-- One past 10^18, under maps with a d of 1: XX12 by one YY12 more, YY12 by one XX12 more, and XY24 by three XY24 less and four more of 2×YY12.
+abbrev turned : AffineMap → ℤ → ℤ → ℤ → ℤ → ℤ → ℕ
+turned m x6 y6 xx12 xy24 yy12 = mapCall m (record { a2 = pos 0; x6 = x6; y6 = y6; xx12 = xx12; xy24 = xy24; yy12 = yy12 }) .number
+
+abbrev xx12Past : (ℕ → ℤ) → ℕ → ℕ
+xx12Past f n = turned (record { a = pos 2; b = pos 1; g = negsuc 0; h = pos 0; e = pos 2000; f = pos 0 }) (f 13_348_000_000_000) (pos 0) (f 98_304_000_000_000_000) (f 196_608_000_000_000_000) (f n)
+
+abbrev yy12Past : (ℕ → ℤ) → ℕ → ℕ
+yy12Past f n = turned (record { a = pos 0; b = negsuc 0; g = pos 1; h = pos 2; e = pos 0; f = pos 2000 }) (pos 0) (f 13_348_000_000_000) (f n) (f 196_608_000_000_000_000) (f 98_304_000_000_000_000)
+
+abbrev xy24Past : (ℕ → ℤ) → ℕ → ℕ
+xy24Past f n = turned (record { a = pos 2; b = pos 1; g = pos 1; h = pos 1; e = pos 0; f = pos 0 }) (pos 0) (pos 0) (f 98_304_000_000_000_000) (f (196_608_000_000_000_000 - n)) (f (8_480_000_000_000_000 + 2 * n))
+
+abbrev bothSigns : ((ℕ → ℤ) → ℕ → ℕ) → List ℕ
+bothSigns number = map (number pos) (0 ∷ 1 ∷ []) ++ map (number (λ n. negℤ (pos n))) (0 ∷ 1 ∷ [])
+
+one-past : bothSigns xx12Past ++ bothSigns xy24Past ++ bothSigns yy12Past ≡ 0 ∷ 5 ∷ 0 ∷ 5 ∷ 0 ∷ 5 ∷ 0 ∷ 5 ∷ 0 ∷ 5 ∷ 0 ∷ 5 ∷ []
+unfolding over exceed disallowed mapCall
+one-past = refl
 
 -- ---- coordinates
 
@@ -149,3 +175,8 @@ record Maps : Type 0 where
 maps : Maps
 unfolding over exceed disallowed mapCall
 maps = record { coefficient = refl; coefficient-beyond = refl; shift = refl; shift-beyond = refl }
+
+-- Demand 3 speaks of the maps that 3 takes: the same limits.
+allowed : map disallowed (coefficients (pos 2) ++ coefficients (negsuc 1) ++ shifts (pos 2000) ++ shifts (negsuc 1999)) ≡ replicate 12 false
+unfolding over disallowed
+allowed = refl

@@ -54,7 +54,7 @@ sheetWith s t = record { count = s .count + 1; totals = plus (s .totals) t }
 
 -- ---- refusal 28
 
--- What n edges add to each total at most: n times the 1,024th part of its outline bound.
+-- What each total of a walk of n points may be at most: n times the 1,024th part of its outline bound.
 abbrev pub share : ℕ → Sizes
 share n =
     record {
@@ -66,7 +66,7 @@ share n =
       yy12 = n * (outlineBounds .yy12 / 1024);
     }
 
--- An open walk that no calls make: its count is past 1,024, or an end of it, once it has points, is one that 1 refuses, or a total is past its share.
+-- 28 of a walk, which looks at open walks only: the count is past 1,024; or there are points, and 1 refuses the first or the last; or a total is past its share.
 unfoldable pub unsoundWalk : Walk → Bool
 unsoundWalk w =
     w .is_open
@@ -74,7 +74,7 @@ unsoundWalk w =
     || not (eqb (w .count) 0) && (outside (w .first) || outside (w .last))
     || exceed (share (w .count)) (w .totals))
 
--- A sheet that no ends make: its count is past 64, or a total is past its limit.
+-- 28 of a sheet: its count is past 64, or a total is past its limit.
 unfoldable pub unsoundSheet : Sheet → Bool
 unsoundSheet s = ltb 64 (s .count) || exceed totalLimits (s .totals)
 
