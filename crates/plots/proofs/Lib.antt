@@ -1,2 +1,4 @@
+pub mod Arguments
 pub mod Turns
 pub mod SoFar
+pub mod StepLaws

@@ -5,6 +5,7 @@ use mathlib.Core.Bool.{Bool, true, false, true≢false}
 use mathlib.Core.List.{List, [], _++_, append-assoc, append-nil}
 use native.Mathlib.Omega.{arith}
 use lib.Dec.{eqb}
+use lib.IntN.{ℤ, pos}
 use lib.ListN.{length, take, drop, length-drop}
 use lib.Seq.{drop-drop, take-add, take-at, drop-at, length-take-le}
 use borrow.Rule.Slice.PartMut.{mid-len}
@@ -34,9 +35,9 @@ place st s buffer rest = record { state = st; sheet = s; buffer = buffer; unread
 -- Whatever may still come; after the end of the input nothing does.
 steps-run : {last : Bool} {st : State} {s : Sheet} {buffer input out : List ℕ} → LoopSteps last st s buffer input out → (rest : List ℕ) → (last ≡ true → rest ≡ []) → Run (place st s buffer rest) start newSheet [] (input ++ rest) out
 steps-run none rest end = here
-steps-run (called {last} {st} {s} {buffer} {input} {out} room r text whole e t w before) rest end =
+steps-run (called {last} {st} {s} {buffer} {input} {out} room r descriptor text whole e d t w before) rest end =
     subst (λ l. Run (place (r .state) (r .sheet) (drop (r .used) buffer) rest) start newSheet [] (input ++ rest) (out ++ l)) (append-nil (r .output) ∙ sym t) (then (steps-run before rest end) (feeds last room r end e here))
-steps-run (received {st} {s} {buffer} {input} {out} r piece f l before) rest end =
+steps-run (received {st} {s} {buffer} {input} {out} piece failed f before) rest end =
     subst (Run (place st s (buffer ++ piece) rest) start newSheet [] ((input ++ piece) ++ rest)) (append-nil out) (rw (append-assoc input piece rest) (then (steps-run before (piece ++ rest) (λ e. absurd (true≢false (sym e)))) (reads piece here)))
 
 -- Some steps have led here.
@@ -63,17 +64,17 @@ left buf at have used h l =
     ∙ drop-at (take used (drop at buf)) (take n (drop used (drop at buf))) used (length-take-le used (drop at buf) (omega (arith, length-drop at buf)))
     ∙ ap (take n) (drop-drop used at buf)
 
--- A call on the bytes from `at` up to `have`, and a write of the front of `after`, the output's buffer.
-pub after-write : (last : Bool) (st : State) (s : Sheet) (buf : List ℕ) (at have : ℕ) (before after : List ℕ) (r : Fed) (whole : Bool) → (let chunk = take (have - at) (drop at buf) in Feeds (feedCall last st s chunk (length before)) before after r → at + r .used ≤ have → have ≤ length buf → whole ≡ true → SoFar last st s chunk → SoFar last (r .state) (r .sheet) (take (have - (at + r .used)) (drop (at + r .used) buf)))
+-- A call on the bytes from `at` up to `have`, and a write of what it put at the front of `after`, the output's buffer.
+pub after-write : (last : Bool) (st : State) (s : Sheet) (buf : List ℕ) (at have : ℕ) (before after : List ℕ) (r : Fed) (descriptor : ℤ) (text : List ℕ) (whole : Bool) → (let chunk = take (have - at) (drop at buf) in Feeds (feedCall last st s chunk (length before)) before after r → at + r .used ≤ have → have ≤ length buf → descriptor ≡ pos 1 → text ≡ take (r .put) after → whole ≡ true → SoFar last st s chunk → SoFar last (r .state) (r .sheet) (take (have - (at + r .used)) (drop (at + r .used) buf)))
 unfolding put
-after-write last st s buf at have before after r whole f h l w k =
+after-write last st s buf at have before after r descriptor text whole f h l d t w k =
     let call = feedCall last st s (take (have - at) (drop at buf)) (length before) in
-    let n = length (call .output) in
-    let written : take n after ≡ call .output = ap (take n) (f .buffer) ∙ take-at (call .output) (drop (0 + n) before) n refl in
+    let size : r .put ≡ length (call .output) = ap (λ (r : Fed). r .put) (f .answer) in
+    let written : text ≡ call .output = t ∙ ap (take (r .put)) (f .buffer) ∙ take-at (call .output) (drop (0 + length (call .output)) before) (r .put) (sym size) in
     let used : r .used ≡ call .used = ap (λ (r : Fed). r .used) (f .answer) in
     subst (λ (r : Fed). SoFar last (r .state) (r .sheet) (take (have - (at + r .used)) (drop (at + r .used) buf))) (sym (f .answer))
     (subst (SoFar last (call .state) (call .sheet)) (left buf at have (call .used) (omega arith) l)
-    (record { input = k .input; out = k .out ++ take n after; steps = called (length before) call (take n after) whole refl written w (k .steps) }))
+    (record { input = k .input; out = k .out ++ text; steps = called (length before) call descriptor text whole refl d written w (k .steps) }))
 
 -- The bytes from `from` up to `to` are moved to the front, and a read adds to them.
 pub after-read : (st : State) (s : Sheet) (buf moved after : List ℕ) (from to n : ℕ) (r : Received) → (let bytes = take (to - from) (drop from buf) in to ≤ length buf → n ≡ to - from → moved ≡ put buf 0 bytes → take n after ≡ take n moved → n + r .size ≤ length after → r .failed ≡ false → SoFar false st s bytes → SoFar (eqb (r .size) 0) st s (take (n + r .size - 0) (drop 0 after)))
@@ -84,5 +85,7 @@ after-read st s buf moved after from to n r l e m t h f k =
     let front : take n after ≡ bytes = t ∙ ap (take n) m ∙ take-at bytes (drop (0 + length bytes) buf) n (mid-len from to buf l ∙ sym e) in
     let sum : n + r .size - 0 ≡ n + r .size = omega arith in
     let all : bytes ++ piece ≡ take (n + r .size - 0) after = ap (λ b. b ++ piece) (sym front) ∙ sym (take-add n (r .size) after) ∙ ap (λ i. take i after) (sym sum) in
-    subst (SoFar (eqb (r .size) 0) st s) all
-    (record { input = k .input ++ piece; out = k .out; steps = received r piece f (length-take-le (r .size) (drop n after) (omega (arith, length-drop n after))) (k .steps) })
+    let size : length piece ≡ r .size = length-take-le (r .size) (drop n after) (omega (arith, length-drop n after)) in
+    subst (λ i. SoFar (eqb i 0) st s (take (n + r .size - 0) after)) size
+    (subst (SoFar (eqb (length piece) 0) st s) all
+    (record { input = k .input ++ piece; out = k .out; steps = received piece (r .failed) f (k .steps) }))

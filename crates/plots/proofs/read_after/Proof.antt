@@ -1,10 +1,10 @@
 -- `plots::read_after` meets its contract: of the buffer only the part that is lent to `read` can change, and a read that failed has put nothing.
 use Prim.Native.Nat.{ℕ, _-_, _≤_}
-use mathlib.Core.Path.{_≡_, refl, _∙_}
+use mathlib.Core.Path.{_≡_, refl, ap, _∙_}
 use mathlib.Core.Bool.{true}
 use native.Mathlib.Omega.{arith}
 use lib.IntN.{ℤ, pos, negsuc}
-use lib.ListN.{length}
+use lib.ListN.{length, take, drop}
 use lib.Signed.{ltZ}
 use mir.Syntax.{w64}
 use mir.Val.{toZ, ofZ}
@@ -12,6 +12,7 @@ use borrow.Author.Needs.{needs}
 use borrow.Author.Tests.{ltb-true}
 use borrow.Rule.Slice.PartMut.{mid-len, take-put}
 use Rattle.io.specs.Counts.{clamped}
+use Rattle.plots.proofs.Arguments.{given-to}
 use Rattle.plots.proofs.read_after.Statement.{statement}
 use Rattle.plots.proofs.read_after.Tie as tie
 
@@ -22,6 +23,14 @@ within (negsuc k) room = omega arith
 failed-none : (got : ℤ) (room : ℕ) → ltZ got (pos 0) ≡ true → clamped got room ≡ 0
 failed-none (pos k) room h = absurd (omega (arith, ltb-true k 0 h))
 failed-none (negsuc k) room h = refl
+
+-- `read` is given standard input,
+descriptor : (c : tie.After-read) → given-to (c .read) .0 ≡ pos 0
+descriptor c = refl
+
+-- and the buffer from `have` on.
+part-lent : (c : tie.After-read) → (let a = c .before .before .before .before .args in given-to (c .read) .1 .0 .now ≡ take (length (a .buf .now) - a .have) (drop (a .have) (a .buf .now)))
+part-lent c = refl
 
 sub-part : tie.Need-sub-part
 sub-part c = search needs
@@ -48,7 +57,8 @@ returns c =
     let a = at-read .before .before .before .before .args in
     let got = toZ w64 (ofZ w64 (at-read .read .result)) in
     let part = at-read .read .last .1 .0 in
-    let room : length part ≡ length (a .buf .now) - a .have = at-read .read .kept .1 .0 ∙ mid-len (a .have) (length (a .buf .now)) (a .buf .now) (omega arith) in (
+    let from-input = descriptor at-read in
+    let room : length part ≡ length (a .buf .now) - a .have = at-read .read .kept .1 .0 ∙ ap length (part-lent at-read) ∙ mid-len (a .have) (length (a .buf .now)) (a .buf .now) (omega arith) in (
       rw (at-answered .answered .ensures) (omega (arith, within got (length part))),
       (rw (at-answered .answered .ensures) (failed-none got (length part)), take-put (a .have) (length (a .buf .now) - a .have) (a .buf .now) part (omega arith)),
     )
