@@ -24,13 +24,9 @@ failed-none : (got : ℤ) (room : ℕ) → ltZ got (pos 0) ≡ true → clamped 
 failed-none (pos k) room h = absurd (omega (arith, ltb-true k 0 h))
 failed-none (negsuc k) room h = refl
 
--- `read` is given standard input,
-descriptor : (c : tie.After-read) → given-to (c .read) .0 ≡ pos 0
-descriptor c = refl
-
--- and the buffer from `have` on.
-part-lent : (c : tie.After-read) → (let a = c .before .before .before .before .args in given-to (c .read) .1 .0 .now ≡ take (length (a .buf .now) - a .have) (drop (a .have) (a .buf .now)))
-part-lent c = refl
+-- `read` is given standard input, and the buffer from `have` on.
+given : (c : tie.After-read) → (let a = c .before .before .before .before .args in let g = given-to (c .read) in (g .0 ≡ pos 0) × (g .1 .0 .now ≡ take (length (a .buf .now) - a .have) (drop (a .have) (a .buf .now))))
+given c = (refl, refl)
 
 sub-part : tie.Need-sub-part
 sub-part c = search needs
@@ -57,8 +53,7 @@ returns c =
     let a = at-read .before .before .before .before .args in
     let got = toZ w64 (ofZ w64 (at-read .read .result)) in
     let part = at-read .read .last .1 .0 in
-    let from-input = descriptor at-read in
-    let room : length part ≡ length (a .buf .now) - a .have = at-read .read .kept .1 .0 ∙ ap length (part-lent at-read) ∙ mid-len (a .have) (length (a .buf .now)) (a .buf .now) (omega arith) in (
+    let room : length part ≡ length (a .buf .now) - a .have = at-read .read .kept .1 .0 ∙ ap length (given at-read .1) ∙ mid-len (a .have) (length (a .buf .now)) (a .buf .now) (omega arith) in (
       rw (at-answered .answered .ensures) (omega (arith, within got (length part))),
       (rw (at-answered .answered .ensures) (failed-none got (length part)), take-put (a .have) (length (a .buf .now) - a .have) (a .buf .now) part (omega arith)),
     )

@@ -74,13 +74,9 @@ after-feed c =
     subst (λ n. AfterCall (l .last) (l .state) n (length (l .out)) (c .feed .result)) (mid-len (l .at) (l .have) (l .buf) (l .inv .inside))
     (after-call (l .last) (l .state) (l .sheet) chunk (length (l .out)) (omega (arith, sizes (loop-of c) .1)) (l .inv .sound) (c .feed .result) (c .feed .ensures .answer))
 
--- `write_all` is given standard output,
-descriptor : (c : tie.After-write-all Inv-loop μ-loop) → given-to (c .write-all) .0 ≡ pos 1
-descriptor c = refl
-
--- and the front of the output's buffer that the call has put.
-text : (c : tie.After-write-all Inv-loop μ-loop) → (let f = feed-of-write c .feed in given-to (c .write-all) .1 .0 .now ≡ take (f .result .put) (f .last .1 .1 .1 .1 .0))
-text c = refl
+-- `write_all` is given standard output, and what the call has put at the front of the output's buffer.
+given : (c : tie.After-write-all Inv-loop μ-loop) → (let f = feed-of-write c .feed in let g = given-to (c .write-all) in (g .0 ≡ pos 1) × (g .1 .0 .now ≡ take (f .result .put) (f .last .1 .1 .1 .1 .0)))
+given c = (refl, refl)
 
 -- The call and the write are steps: `write_all` has answered true.
 so-far : (c : tie.After-struct-known Inv-loop μ-loop) → (let l = loop-of (feed-of c) .loop in let r = feed-of c .feed .result in let from = l .at + r .used in SoFar (l .last) (r .state) (r .sheet) (take (l .have - from) (drop from (l .buf))))
@@ -90,7 +86,7 @@ so-far c =
     let at-write = c .before .before .before .before in
     let w = at-write .write-all in
     let whole : w .result ≡ true = not-false (w .result) (c .before .before .before .if1 .left) in
-    after-write (l .last) (l .state) (l .sheet) (l .buf) (l .at) (l .have) (l .out) (f .last .1 .1 .1 .1 .0) (f .result) (given-to w .0) (given-to w .1 .0 .now) (w .result) (f .ensures) (omega (arith, after-feed (feed-of c) .taken, l .inv .order)) (l .inv .inside) (descriptor at-write) (text at-write) whole (l .inv .so-far)
+    after-write (l .last) (l .state) (l .sheet) (l .buf) (l .at) (l .have) (l .out) (f .last .1 .1 .1 .1 .0) (f .result) (given-to w .0) (given-to w .1 .0 .now) (w .result) (f .ensures) (omega (arith, after-feed (feed-of c) .taken, l .inv .order)) (l .inv .inside) (given at-write .0) (given at-write .1) whole (l .inv .so-far)
 
 -- Where the loop returns because the S line is written: what was written is the program's output for what was read, whatever may still come.
 at-return : (c : tie.Then2 Inv-loop μ-loop) → (let k = so-far (c .before) in (rest : List ℕ) → (loop-of (feed-of (c .before)) .loop .last ≡ true → rest ≡ []) → k .out ≡ program (k .input ++ rest))
