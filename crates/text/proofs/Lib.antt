@@ -17,6 +17,6 @@ pub mod LastCall
 pub mod Chunks
 pub mod LinesInTurn
 pub mod OutputLaws
-pub mod ChunksUse
+pub mod ChunksUses
 pub mod LineByLine
-pub mod LineByLineUse
+pub mod LineByLineUses

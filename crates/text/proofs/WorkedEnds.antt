@@ -9,8 +9,8 @@ use Rattle.printing.specs.Output.{digits, decimal, signed, totalsText, centreTe
 use Rattle.text.specs.Program.{linesFrom, tooFar, carriedWalk, carryOut, outputOf, program}
 use Rattle.text.proofs.Worked.{text}
 
--- A last line without a newline counts, and an open walk is dropped.
-pub unended : program (66 ∷ []) ≡ text ("S 0 0 0 0 0 0 0 - -" ∷ [])
+-- A last line without a newline counts, and a walk that was not ended adds nothing.
+pub unended : program (66 ∷ 10 ∷ 66 ∷ []) ≡ text ("R 2 22" ∷ "S 0 0 0 0 0 0 0 - -" ∷ [])
 unfolding over exceed unsoundWalk beginCall outlineCentroidCall withFirst fields letterOf formOfFields formOf digits decimal signed totalsText centreText refusalLine sheetLine linesFrom tooFar carriedWalk carryOut outputOf program
 unended = refl
 
@@ -28,3 +28,9 @@ at-line = refl
 pub at-byte : outputOf closed newSheet (record { number = 1; last = 33_000_000; bytes = 65 ∷ [] } ∷ record { number = 2; last = 33_000_001; bytes = 65 ∷ [] } ∷ []) ≡ text ("R 1 21" ∷ "R 2 10" ∷ "S 0 0 0 0 0 0 0 - -" ∷ [])
 unfolding over exceed unsoundWalk abandonCall outlineCentroidCall withFirst fields letterOf formOfFields formOf digits decimal signed totalsText centreText refusalLine sheetLine tooFar carriedWalk carryOut outputOf
 at-byte = refl
+
+-- A newline is a byte of the line that it ends and comes before the next: of two lines A the second is carried out where its newline is byte 33,000,000, and is 10 where
+-- that is byte 33,000,001.
+pub newline-counted : (outputOf closed newSheet (linesFrom 0 32_999_996 [] (65 ∷ 10 ∷ 65 ∷ 10 ∷ [])) ≡ text ("R 1 21" ∷ "R 2 21" ∷ "S 0 0 0 0 0 0 0 - -" ∷ [])) × (outputOf closed newSheet (linesFrom 0 32_999_997 [] (65 ∷ 10 ∷ 65 ∷ 10 ∷ [])) ≡ text ("R 1 21" ∷ "R 2 10" ∷ "S 0 0 0 0 0 0 0 - -" ∷ []))
+unfolding over exceed unsoundWalk abandonCall outlineCentroidCall withFirst fields letterOf formOfFields formOf digits decimal signed totalsText centreText refusalLine sheetLine linesFrom tooFar carriedWalk carryOut outputOf
+newline-counted = (refl, refl)

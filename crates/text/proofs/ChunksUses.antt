@@ -1,5 +1,5 @@
--- Runs at values, to which the statements of `Chunks` are put: an input that comes in pieces, through calls with little room or none, and an input that goes on after 10.
-use mathlib.Core.Path.{_≡_, refl, sym, subst}
+-- The statements of `Chunks` put to runs at values: an input that comes in pieces, through calls with little room or none, and an input that goes on after 10. Then to every run.
+use mathlib.Core.Path.{_≡_, refl, sym, subst, _∙_}
 use mathlib.Core.Bool.{true, false, true≢false}
 use mathlib.Core.List.{List, [], _∷_, _++_, append-nil}
 use Prim.Native.Nat.{ℕ, suc, _+_, _<_}
@@ -130,3 +130,17 @@ from-start all =
 -- From a place on the way.
 pub from-waiting : (p : Place) × (rest : List ℕ) × Run p (waiting .state) newSheet (69 ∷ []) [] rest × (text ("R 1 9" ∷ []) ++ rest ≡ program input)
 from-waiting = let (p, rest, e, run) = runs-end waiting in (p, rest, run, chunks p input (text ("R 1 9" ∷ []) ++ rest) (to-waiting p rest run) e)
+
+-- From every place that a run has come to: what that run has written, and what is still to be written, is the program's output, and the run can go on.
+pub from-place : (p : Place) (all out : List ℕ) → Run p start newSheet [] all out → (q : Place) × (rest : List ℕ) × (q .state .written ≡ true) × Run q (p .state) (p .sheet) (p .buffer) (p .unread) rest × (out ++ remainingAt p ≡ program all)
+from-place p all out run = let (q, rest, e, more) = runs-end p in (q, rest, e, more, chunks-so-far p all out run)
+
+-- For every input there is a run that reads no byte after the first 33,000,001 and writes the program's output.
+pub within-start : (all : List ℕ) → (p : Place) × (p .state .written ≡ true) × Run p start newSheet [] (take 33_000_001 all) (program all)
+within-start all =
+    let (p, out, e, run) = runs-end (record { state = start; sheet = newSheet; buffer = []; unread = take 33_000_001 all }) in
+    (p, e, subst (Run p start newSheet [] (take 33_000_001 all)) (chunks-within p all out run e) run)
+
+-- Two runs on one input, whatever their pieces and their room, have written the same once each has written S.
+pub same-output : (p q : Place) (all a b : List ℕ) → Run p start newSheet [] all a → p .state .written ≡ true → Run q start newSheet [] all b → q .state .written ≡ true → a ≡ b
+same-output p q all a b run e other f = chunks p all a run e ∙ sym (chunks q all b other f)

@@ -1,4 +1,4 @@
--- The cases of a line at values, each once or more: accepted begin and points, an accepted end, a refused end, a line of none of the forms; then S.
+-- The cases of a line at values, each once or more: accepted begin and points, an accepted end, a refused end, a line of none of the forms; then S. Then every input.
 use Prim.Native.Nat.{ℕ}
 use mathlib.Core.Path.{_≡_, refl, sym, ap, _∙_}
 use mathlib.Core.List.{List, [], _∷_, _++_, append-assoc}
@@ -52,3 +52,11 @@ sheet-last (near {out = out} l ls e p q) = let (front, last, same) = sheet-last 
 
 pub ends-with-sheet : (all : List ℕ) → (front : List ℕ) × (last : Sheet) × (program all ≡ front ++ sheetLine last)
 ends-with-sheet all = sheet-last (line-by-line all)
+
+-- Of every input: the cases give an output,
+pub some-output : (all : List ℕ) → (out : List ℕ) × Output (from closed) newSheet (linesFrom 0 0 [] all) out
+some-output all = (program all, line-by-line all)
+
+-- and two that they give are the same.
+pub one-output : (all a b : List ℕ) → Output (from closed) newSheet (linesFrom 0 0 [] all) a → Output (from closed) newSheet (linesFrom 0 0 [] all) b → a ≡ b
+one-output all a b p q = line-by-line-only all a p ∙ sym (line-by-line-only all b q)
