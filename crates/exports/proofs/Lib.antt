@@ -1,3 +1,4 @@
 pub mod Numbers
 pub mod RegionLaws
 pub mod ReplyLaws
+pub mod WorkedReplies
