@@ -26,14 +26,14 @@ def walked(points, walk=CLOSED_WALK):
 
 
 def limit_row(x):
-    """2,000 is accepted, 2,001 is 1.  Asked: a coordinate.  Answered: number, six totals."""
+    """A triangle with a corner at the limit or past it.  Asked: its x.  Answered: number, six totals."""
     number, totals = list_call([x, 0, 0, 2000, -2000, 0])
     return ["limit", x, number, *totals]
 
 
 def point_row(place):
-    """Point 1,025 is 23, but 1 if out of limits.  Asked: its coordinates.
-    Answered: number, count and six totals of the walk."""
+    """A point for a walk that has 1,024, within the limits or outside them.
+    Asked: its coordinates.  Answered: number, count and six totals of the walk."""
     number, walk = point(walked(SQUARE * 256), place)
     return ["point-1025", *place, number, walk.count, *walk.totals]
 

@@ -63,7 +63,7 @@ finish room h (suc most) st s buffer l = go (finish room h most (r .state) (r .s
     go others true e = (record { state = st; sheet = s; buffer = buffer; unread = [] }, [], e, here)
     go others false e = feed others (feed-progress true st s buffer room h e)
 
--- All that is left is read at once, and then there is room for a line at each call. That a program whose buffer is bounded ends is shown of `main` itself.
+-- All that is left is read at once, and then there is room for a line at each call. That a program whose buffer is bounded ends is shown of `run` itself.
 pub runs-end : RunsEnd
 runs-end from =
     let all = from .buffer ++ from .unread in

@@ -28,9 +28,9 @@ callOf (point x y) s = Calls.point (record { x = x; y = y }) ∷ []
 pub data LinePrints (r : Trace) (s : Sheet) (l : Line) : List ℕ → Trace → Sheet → Type 0 where
   -- 9, and no call.
   formless : formOf (l .bytes) ≡ other → LinePrints r s l (refusalLine (l .number) 9) r s
-  -- Accepted begin, point and abandon print nothing.
+  -- A begin, a point or an abandon that is accepted is silent.
   silent : (c : Call) → callOf (formOf (l .bytes)) s ≡ c ∷ [] → formOf (l .bytes) ≢ end → numberOf (r .walk) c ≡ 0 → LinePrints r s l [] (next r c) s
-  -- Accepted end: the sheet's count with this outline, its points, and the totals that the list call answers for them. The sheet has this outline more.
+  -- An end that is accepted: which outline of the sheet it is, counted from 1, its points, and the totals that the list call answers for them. The sheet has this outline more.
   outline : (totals : Totals) → formOf (l .bytes) ≡ end → numberOf (r .walk) (Calls.end s) ≡ 0 → listCall (numbers (r .points)) ≡ accepted totals → LinePrints r s l (outlineLine (s .count + 1) (length (r .points)) totals) (next r (Calls.end s)) (sheetWith s totals)
   -- Refusal: the line's own number and its call's. Nothing else changes.
   refused : (c : Call) → callOf (formOf (l .bytes)) s ≡ c ∷ [] → numberOf (r .walk) c ≢ 0 → LinePrints r s l (refusalLine (l .number) (numberOf (r .walk) c)) r s

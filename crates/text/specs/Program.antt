@@ -39,7 +39,7 @@ pub record Carried : Type 0 where
   pub walk : Walk
   pub sheet : Sheet
 
--- Begin, point and abandon print nothing but a refusal.
+-- Of begin, point and abandon only a refusal is told.
 abbrev pub told : ℕ → ℕ → List ℕ
 told line number = cond (eqb number 0) [] (refusalLine line number)
 
@@ -60,7 +60,7 @@ carryOut line other w s = record { output = refusalLine line 9; walk = w; sheet 
 
 -- ---- the output
 
--- The lines in turn, then S. 10 comes before the line is carried out, and no line follows it. A walk still open is dropped.
+-- The lines in turn, then S. 10 comes before the line is carried out, and no line follows it. A walk that was not ended adds nothing.
 unfoldable pub outputOf : Walk → Sheet → List Line → List ℕ
 outputOf w s [] = sheetLine s
 outputOf w s (l ∷ ls) =

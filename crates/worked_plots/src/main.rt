@@ -23,7 +23,7 @@ use show::show_natural;
 use show::show_sums;
 use show::show_totals;
 
-// 2,000 is accepted, 2,001 is 1. Asked: a coordinate. Answered: number, six totals.
+// A triangle with a corner at the limit or past it. Asked: its x. Answered: number, six totals.
 fn limit_row(x: i32) {
     let answer = plots::triangle_totals(x);
     show_label(b"limit");
@@ -33,7 +33,7 @@ fn limit_row(x: i32) {
     end_row();
 }
 
-// Point 1,025 is 23, but 1 if out of limits. Asked: its coordinates. Answered: number, count and six totals of the walk.
+// A point for a walk that has 1,024, within the limits or outside them. Asked: its coordinates. Answered: number, count and six totals of the walk.
 fn point_row(p: Position) {
     let reply = plots::point_1025(p);
     let answer = reply.answer;
