@@ -174,8 +174,8 @@ pentagon-ended = pentagon-walked .ended
 -- ---- every walk
 
 -- Two walks with the same points have the same totals, whatever calls made them and whatever sheets they end on.
-same-points : (k l : Walking) (s q : Sheet) → endCall (reached k .walk) s .number ≡ 0 → endCall (reached l .walk) q .number ≡ 0 → reached k .points ≡ reached l .points → endCall (reached k .walk) s .totals ≡ endCall (reached l .walk) q .totals
-same-points k l s q e f same = walked-outline k .edge-sums s e ∙ ap outlineTotals same ∙ sym (walked-outline l .edge-sums q f)
+same-outline : (k l : Walking) (s q : Sheet) → endCall (reached k .walk) s .number ≡ 0 → endCall (reached l .walk) q .number ≡ 0 → reached k .points ≡ reached l .points → endCall (reached k .walk) s .totals ≡ endCall (reached l .walk) q .totals
+same-outline k l s q e f same = walked-outline k .edge-sums s e ∙ ap outlineTotals same ∙ sym (walked-outline l .edge-sums q f)
 
 -- Whatever the cuts and the starts, the pieces' totals add up to the same.
 any-cuts : (k : Walking) (s : Sheet) → endCall (reached k .walk) s .number ≡ 0 → (m : AffineMap) → disallowed m ≡ false → anyOutside (moved m (reached k .points)) ≡ false → (direction : Direction) (some others : List Cut) (start from : ℕ → ℕ) → sumOf (map totalsOf (map (moved m) (placed direction start (piecesOf (reached k .points) some)))) ≡ sumOf (map totalsOf (map (moved m) (placed direction from (piecesOf (reached k .points) others))))

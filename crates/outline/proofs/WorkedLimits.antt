@@ -32,8 +32,8 @@ outlineSizes = record { a2 = 8_192_000_000; x6 = 32_768_000_000_000; y6 = 32_768
 abbrev shareOfThree : Sizes
 shareOfThree = record { a2 = 24_000_000; x6 = 96_000_000_000; y6 = 96_000_000_000; xx12 = 288_000_000_000_000; xy24 = 576_000_000_000_000; yy12 = 288_000_000_000_000 }
 
-abbrev same : ℕ → Sizes
-same n = record { a2 = n; x6 = n; y6 = n; xx12 = n; xy24 = n; yy12 = n }
+abbrev allSizes : ℕ → Sizes
+allSizes n = record { a2 = n; x6 = n; y6 = n; xx12 = n; xy24 = n; yy12 = n }
 
 -- 28 of a walk: the share of its points, 0 where it has none, the outline bounds where it has 1,024.
 share-of-3 : Limited (λ t. pointCall (openOf 3 t) origin .number) shareOfThree 0 28
@@ -44,12 +44,12 @@ share-of-1024 : Limited (λ t. abandonCall (openOf 1024 t) .number) outlineSizes
 unfolding over exceed outside unsoundWalk abandonCall
 share-of-1024 = record { greatest = refl; least = refl; above = refl; below = refl }
 
-share-of-none : Limited (λ t. abandonCall (openOf 0 t) .number) (same 0) 0 28
+share-of-none : Limited (λ t. abandonCall (openOf 0 t) .number) (allSizes 0) 0 28
 unfolding over exceed outside unsoundWalk abandonCall
 share-of-none = record { greatest = refl; least = refl; above = refl; below = refl }
 
 -- 28 of a sheet: 10^18. The walk is closed, so that 21 comes where 28 does not.
-sheet-limit : Limited (λ t. endCall closed (sheetOf 0 t) .number) (same 1_000_000_000_000_000_000) 21 28
+sheet-limit : Limited (λ t. endCall closed (sheetOf 0 t) .number) (allSizes 1_000_000_000_000_000_000) 21 28
 unfolding over exceed unsoundWalk unsoundSheet endCall
 sheet-limit = record { greatest = refl; least = refl; above = refl; below = refl }
 
@@ -59,25 +59,25 @@ unfolding over exceed disallowed mapCall
 map-bounds = record { greatest = refl; least = refl; above = refl; below = refl }
 
 -- 26: 1 more makes 10^18, which is taken, and 2 more are too many; likewise below zero.
-abbrev nearly : ℤ → Totals
-nearly z = record { a2 = z; x6 = z; y6 = z; xx12 = z; xy24 = z; yy12 = z }
+abbrev allTotals : ℤ → Totals
+allTotals z = record { a2 = z; x6 = z; y6 = z; xx12 = z; xy24 = z; yy12 = z }
 
 record Filled : Type 0 where
-  up : map (λ t. endCall (openOf 3 t) (sheetOf 0 (nearly (pos 999_999_999_999_999_999))) .number) (eachAlone pos (same 1) ++ eachAlone pos (same 2)) ≡ replicate 6 0 ++ replicate 6 26
-  down : map (λ t. endCall (openOf 3 t) (sheetOf 0 (nearly (negsuc 999_999_999_999_999_998))) .number) (eachAlone negsuc (same 0) ++ eachAlone negsuc (same 1)) ≡ replicate 6 0 ++ replicate 6 26
+  up : map (λ t. endCall (openOf 3 t) (sheetOf 0 (allTotals (pos 999_999_999_999_999_999))) .number) (eachAlone pos (allSizes 1) ++ eachAlone pos (allSizes 2)) ≡ replicate 6 0 ++ replicate 6 26
+  down : map (λ t. endCall (openOf 3 t) (sheetOf 0 (allTotals (negsuc 999_999_999_999_999_998))) .number) (eachAlone negsuc (allSizes 0) ++ eachAlone negsuc (allSizes 1)) ≡ replicate 6 0 ++ replicate 6 26
 
 filled : Filled
 unfolding over exceed outside unsoundWalk unsoundSheet endCall
 filled = record { up = refl; down = refl }
 
 -- The closing edge, from (0,1) to (1,0), adds -1 to each total: 26 looks at the sums with it.
-with-closing-edge : map (λ t. endCall (openWith 3 (at (pos 1) (pos 0)) (at (pos 0) (pos 1)) t) (sheetOf 0 (nearly (pos 1_000_000_000_000_000_000))) .number) (eachAlone pos (same 1) ++ eachAlone pos (same 2)) ≡ replicate 6 0 ++ replicate 6 26
+with-closing-edge : map (λ t. endCall (openWith 3 (at (pos 1) (pos 0)) (at (pos 0) (pos 1)) t) (sheetOf 0 (allTotals (pos 1_000_000_000_000_000_000))) .number) (eachAlone pos (allSizes 1) ++ eachAlone pos (allSizes 2)) ≡ replicate 6 0 ++ replicate 6 26
 unfolding over exceed outside unsoundWalk unsoundSheet endCall
 with-closing-edge = refl
 
 -- 5: doubled, a second moment is 16 times as large: 10^18 is taken, and 10^18 + 16 is not. (A2, X6 and Y6 that 4 takes are never mapped so far.)
 abbrev doubled : (ℕ → ℤ) → ℕ → List ℕ
-doubled f n = map (λ t. mapCall doubling t .number) (drop 3 (eachAlone f (same n)))
+doubled f n = map (λ t. mapCall doubling t .number) (drop 3 (eachAlone f (allSizes n)))
 
 record Mapped : Type 0 where
   up : doubled pos 62_500_000_000_000_000 ++ doubled pos 62_500_000_000_000_001 ≡ replicate 3 0 ++ replicate 3 5
@@ -87,7 +87,7 @@ mapped : Mapped
 unfolding over exceed disallowed mapCall
 mapped = record { up = refl; down = refl }
 
--- One past 10^18, under maps with a d of 1: XX12 by one YY12 more, YY12 by one XX12 more, and XY24 by three XY24 less and four more of 2×YY12.
+-- One past 10^18, under maps with a d of 1: XX12 by one YY12 more, YY12 by one XX12 more, and XY24 by one XY24 less and two YY12 more.
 abbrev turned : AffineMap → ℤ → ℤ → ℤ → ℤ → ℤ → ℕ
 turned m x6 y6 xx12 xy24 yy12 = mapCall m (record { a2 = pos 0; x6 = x6; y6 = y6; xx12 = xx12; xy24 = xy24; yy12 = yy12 }) .number
 
