@@ -6,7 +6,8 @@ use Prim.Native.Nat.{ℕ}
 use mathlib.Core.Logic.{_≢_}
 use native.Mathlib.Omega.{arith}
 use lib.ListN.{length}
-use lib.IntN.{pos, negsuc}
+use lib.IntN.{ℤ, pos, negsuc}
+use Rattle.outline.specs.declared.Totals.{Totals}
 use Rattle.outline.specs.declared.AffineMap.{AffineMap}
 use Rattle.outline.specs.declared.Walk.{Walk}
 use Rattle.outline.specs.declared.Sheet.{Sheet}
@@ -18,6 +19,7 @@ use Rattle.outline.specs.WalkCalls.{origin, closed, newSheet, extended, 
 use Rattle.outline.specs.CallLists.{begin, point, end, abandon, numberOf, walkAfter, unsoundSheetIn, pointsWith, next, after, from, walkOf, sheetAfter, addedBy, Walking, reached, outlinesOn}
 use Rattle.outline.specs.PiecesAddUp.{AddUpMoved}
 use Rattle.outline.specs.EveryOutline.{answers, Room, Walkable}
+use Rattle.outline.specs.SheetSums.{HoldsSums}
 use Rattle.outline.proofs.WorkedInputs.{at, openOf, leftover, sheetOf}
 use Rattle.outline.proofs.PiecesUses.{pentagon, pentagonTotals, pentagon-taken, cuts, starts, flat, flat-allowed, flat-bounds, mirror, mirrored, mirror-allowed, mirror-bounds, mirror-answer}
 use Rattle.outline.proofs.PiecesLaws.{same-sum}
@@ -180,3 +182,28 @@ same-outline k l s q e f same = walked-outline k .edge-sums s e ∙ ap outlineTo
 -- Whatever the cuts and the starts, the pieces' totals add up to the same.
 any-cuts : (k : Walking) (s : Sheet) → endCall (reached k .walk) s .number ≡ 0 → (m : AffineMap) → disallowed m ≡ false → anyOutside (moved m (reached k .points)) ≡ false → (direction : Direction) (some others : List Cut) (start from : ℕ → ℕ) → sumOf (map totalsOf (map (moved m) (placed direction start (piecesOf (reached k .points) some)))) ≡ sumOf (map totalsOf (map (moved m) (placed direction from (piecesOf (reached k .points) others))))
 any-cuts k s e m allowed bounds direction some others start from = same-sum (walked-pieces k s e some start direction m allowed bounds) (walked-pieces k s e others from direction m allowed bounds)
+
+-- Two walks that walk an outline again in the same way have the same totals, with the signs that the direction gives.
+walked-twice-again : (first second third : Walking) (s q r : Sheet) → endCall (reached first .walk) s .number ≡ 0 → endCall (reached second .walk) q .number ≡ 0 → endCall (reached third .walk) r .number ≡ 0 → (start : ℕ) (direction : Direction) (m : AffineMap) → disallowed m ≡ false → anyOutside (moved m (reached first .points)) ≡ false → reached second .points ≡ moved m (startAt start (walked direction (reached first .points))) → reached third .points ≡ moved m (startAt start (walked direction (reached first .points))) → directed direction (endCall (reached second .walk) q .totals) ≡ directed direction (endCall (reached third .walk) r .totals)
+walked-twice-again first second third s q r e f g start direction m allowed bounds same same′ =
+    ap (λ a. a .totals) (sym (walked-again first second s e q f start direction m allowed bounds same) ∙ walked-again first third s e r g start direction m allowed bounds same′)
+
+-- ---- every sheet
+
+same-sheet : {s q : Sheet} {ts us : List Totals} → HoldsSums s ts → HoldsSums q us → ts ≡ us → s ≡ q
+same-sheet one other same =
+    let count = one .count ∙ ap length same ∙ sym (other .count) in
+    let totals = one .totals ∙ ap sumOf same ∙ sym (other .totals) in
+    λ i. record { count = count i; totals = totals i }
+
+-- Ends that add the same leave the same sheet,
+same-added : (ws vs : List Walk) → addedBy newSheet ws ≡ addedBy newSheet vs → sheetAfter newSheet ws ≡ sheetAfter newSheet vs
+same-added ws vs = same-sheet (sheet-sums ws) (sheet-sums vs)
+
+-- and so do walks whose accepted ends have the same points.
+same-outlines : (ks ls : List Walking) → outlinesOn newSheet (map reached ks) ≡ outlinesOn newSheet (map reached ls) → sheetAfter newSheet (map (λ k. reached k .walk) ks) ≡ sheetAfter newSheet (map (λ k. reached k .walk) ls)
+same-outlines ks ls same = same-sheet (walked-sheet-sums ks) (walked-sheet-sums ls) (ap (map outlineTotals) same)
+
+-- Every list that the list call accepts can be walked onto every sheet with room, which then has its totals more.
+walked-onto : (zs : List ℤ) (t : Totals) → listCall zs ≡ accepted t → (w : Walk) → w .is_open ≡ false → (s : Sheet) → Room s t → endCall (after (from w) (begin ∷ map point (points zs)) .walk) s .sheet ≡ sheetWith s t
+walked-onto zs t taken w closed s room = ap (λ e. e .sheet) (every-outline zs t taken w closed s room .ended)
