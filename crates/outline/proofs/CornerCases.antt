@@ -4,7 +4,6 @@ use mathlib.Core.Bool.{true, false}
 use mathlib.Core.List.{[], _∷_, map}
 use Prim.Native.Nat.{ℕ}
 use lib.IntN.{ℤ, pos, negsuc}
-use Rattle.outline.specs.declared.Totals.{Totals}
 use Rattle.outline.specs.declared.Walk.{Walk}
 use Rattle.outline.specs.EdgeSums.{zeros, over, exceed}
 use Rattle.outline.specs.ListCall.{points, outside, anyOutside, wrongLength, listCall}
@@ -18,13 +17,10 @@ one-edge = refl
 
 -- ---- a walk just begun, one that is over, and a new sheet, field by field
 
-abbrev nothing : Totals
-nothing = record { a2 = pos 0; x6 = pos 0; y6 = pos 0; xx12 = pos 0; xy24 = pos 0; yy12 = pos 0 }
-
 record Fresh : Type 0 where
-  begun : beginCall closed .walk ≡ record { is_open = true; count = 0; first = at (pos 0) (pos 0); last = at (pos 0) (pos 0); totals = nothing }
-  ended : abandonCall opened .walk ≡ record { is_open = false; count = 0; first = at (pos 0) (pos 0); last = at (pos 0) (pos 0); totals = nothing }
-  sheet : newSheet ≡ record { count = 0; totals = nothing }
+  begun : beginCall closed .walk ≡ record { is_open = true; count = 0; first = at (pos 0) (pos 0); last = at (pos 0) (pos 0); totals = area 0 }
+  ended : abandonCall opened .walk ≡ record { is_open = false; count = 0; first = at (pos 0) (pos 0); last = at (pos 0) (pos 0); totals = area 0 }
+  sheet : newSheet ≡ record { count = 0; totals = area 0 }
 
 fresh : Fresh
 unfolding over exceed unsoundWalk beginCall abandonCall
@@ -33,8 +29,8 @@ fresh = record { begun = refl; ended = refl; sheet = refl }
 -- ---- refusals answer zeros
 
 record Zeros : Type 0 where
-  list : listCall [] ≡ record { number = 2; totals = nothing }
-  end : endCall closed (sheetOf 9 (area 3)) ≡ record { number = 21; totals = nothing; walk = closed; sheet = sheetOf 9 (area 3) }
+  list : listCall [] ≡ record { number = 2; totals = area 0 }
+  end : endCall closed (sheetOf 9 (area 3)) ≡ record { number = 21; totals = area 0; walk = closed; sheet = sheetOf 9 (area 3) }
 
 refusals : Zeros
 unfolding over exceed points wrongLength listCall unsoundWalk unsoundSheet endCall

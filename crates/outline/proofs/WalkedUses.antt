@@ -72,10 +72,14 @@ first-ends-there : endCall (reached first .walk) lastPlace .number ≡ 0
 unfolding over exceed outside extended unsoundWalk unsoundSheet beginCall pointCall endCall abandonCall numberOf walkAfter pointsWith next after
 first-ends-there = refl
 
--- An abandoned walk's points stay in the trace until the next begin.
-abandoned : after (from closed) (begin ∷ point origin ∷ abandon ∷ []) .points ≡ origin ∷ []
+-- The points of a walk that has ended, or was abandoned, stay in the trace until the next begin.
+ended-points : after (from closed) (begin ∷ point origin ∷ point origin ∷ point origin ∷ end newSheet ∷ []) .points ≡ origin ∷ origin ∷ origin ∷ []
+unfolding over exceed outside extended unsoundWalk unsoundSheet beginCall pointCall endCall numberOf walkAfter pointsWith next after
+ended-points = refl
+
+abandoned-points : after (from closed) (begin ∷ point origin ∷ abandon ∷ []) .points ≡ origin ∷ []
 unfolding over exceed outside extended unsoundWalk beginCall pointCall abandonCall numberOf walkAfter pointsWith next after
-abandoned = refl
+abandoned-points = refl
 
 -- ---- walked outlines
 
