@@ -54,9 +54,9 @@ fourInEach : ℕ → List Run → List Run
 fourInEach zero rs = rs
 fourInEach (suc y) rs = fourInEach y (run y 0 1 ∷ run y 1 1 ∷ run y 2 1 ∷ run y 3 1 ∷ rs)
 
-sound-runs : numbers (fourInEach 1024 [] ∷ fourInEach 1024 (run 1023 4 1 ∷ []) ∷ []) ≡ 0 ∷ 8 ∷ []
+allowed-runs : numbers (fourInEach 1024 [] ∷ fourInEach 1024 (run 1023 4 1 ∷ []) ∷ []) ≡ 0 ∷ 8 ∷ []
 unfolding fourInEach badRun anyBad liesAfter disordered tooMany regionCall
-sound-runs = refl
+allowed-runs = refl
 
 -- ---- the order 8, 6, 7
 

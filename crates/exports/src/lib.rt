@@ -15,7 +15,7 @@ use centroid::CellSums;
 use centroid::CentroidAnswer;
 use outline::AffineMap;
 use outline::Totals;
-use survey::OutlineAnswer;
+use outline_calls::OutlineAnswer;
 
 // The answer where the buffer is too short.
 const SHORT_BUFFER: u32 = 100;
@@ -67,7 +67,7 @@ fn put_centre(out: &mut [i64], number: u32, x: i64, y: i64) -> u32
 pub extern "C" fn mavrihkel_outline_totals(points: &[i32], out: &mut [i64]) -> u32
     ensures { λ r. ⌜ record { number = r; buffer = now (out .exit) } ≡ totalsReply (listCall (now (points .entry))) (now (out .entry)) ⌝ }
 {
-    let answer = survey::outline_totals(points);
+    let answer = outline_calls::outline_totals(points);
     match answer {
         OutlineAnswer::Accepted(t) => put_totals(out, 0, t),
         OutlineAnswer::OutsideLimits => put_totals(out, 1, ZEROS),

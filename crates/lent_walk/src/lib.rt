@@ -2,11 +2,11 @@
 // it leaves is stored back.
 ghost use mathlib.Core.Path.{_≡_};
 ghost use Rattle.outline.specs.WalkCalls.{pointCall};
-ghost use Rattle.survey.specs.WalkAnswers.{pointReading};
+ghost use Rattle.outline_calls.specs.WalkAnswers.{pointReading};
 use outline::Walk;
-use survey::PointAnswer;
-use survey::PointReply;
-use survey::point;
+use outline_calls::PointAnswer;
+use outline_calls::PointReply;
+use outline_calls::point;
 
 pub fn point_in(w: &mut Walk, x: i32, y: i32) -> PointAnswer
     ensures { λ r. ⌜ pointReading (record { answer = r; walk = now (w .exit) }) ≡ pointCall (now (w .entry)) (record { x = x; y = y }) ⌝ }

@@ -5,8 +5,8 @@ use mathlib.Core.Bool.{cond}
 use Rattle.outline.specs.declared.Walk.{Walk}
 use Rattle.outline.specs.declared.Sheet.{Sheet}
 use Rattle.outline.specs.WalkCalls.{endCall}
-use Rattle.forms.specs.Grammar.{Form, begin, end, abandon, point, other}
-use Rattle.text.specs.Program.{told, carriedWalk, carriedEnd, carryOut}
+use Rattle.parsing.specs.Grammar.{Form, begin, end, abandon, point, other}
+use Rattle.text_program.specs.Program.{told, carriedWalk, carriedEnd, carryOut}
 use Rattle.lines.specs.LineOutcomes.{asked}
 
 module _ (line : ℕ) (w : Walk) (s : Sheet) (size : ℕ) where

@@ -11,29 +11,29 @@ use Rattle.outline.specs.declared.Totals.{Totals}
 use Rattle.outline.specs.declared.Walk.{Walk}
 use Rattle.outline.specs.declared.Sheet.{Sheet}
 use Rattle.outline.specs.WalkCalls.{EndOutcome}
-use Rattle.survey.proofs.walk.EndAnswer.{the-type}
-use Rattle.survey.specs.declared.walk.EndAnswer.{EndAnswer}
-use Rattle.survey.specs.declared.walk.EndAnswer.the-variants.{Accepted, Unsound, NotOpen, TooFewPoints, SheetFull, SheetExceeded}
-use Rattle.survey.specs.WalkAnswers.{endNumber, endReading}
+use Rattle.outline_calls.proofs.walk.EndAnswer.{the-type}
+use Rattle.outline_calls.specs.declared.walk.EndAnswer.{EndAnswer}
+use Rattle.outline_calls.specs.declared.walk.EndAnswer.the-variants.{Accepted, Impossible, NotOpen, TooFewPoints, SheetFull, SheetExceeded}
+use Rattle.outline_calls.specs.WalkAnswers.{endNumber, endReading}
 use Rattle.printing.specs.Output.{outlineLine, refusalLine}
-use Rattle.printing.specs.Put.{fitting, Written}
-use Rattle.text.specs.Program.{carriedEnd}
+use Rattle.printing.specs.Buffer.{fitting, Written}
+use Rattle.text_program.specs.Program.{carriedEnd}
 use Rattle.lines.specs.LineOutcomes.{Finished}
 
 -- Every answer but the first is a refusal, and no refusal has the number 0.
 refusal-numbered : (a : EndAnswer) → OneOf (1 ∷ 2 ∷ 3 ∷ 4 ∷ 5 ∷ []) (tagOf the-type a) → endNumber a ≡ 0 → ⊥
 refusal-numbered (Accepted t) k e = ⊎-elim (λ h. omega arith) (⊎-elim (λ h. omega arith) (⊎-elim (λ h. omega arith) (⊎-elim (λ h. omega arith) (λ h. omega arith)))) k
-refusal-numbered Unsound k e = omega arith
+refusal-numbered Impossible k e = omega arith
 refusal-numbered NotOpen k e = omega arith
 refusal-numbered TooFewPoints k e = omega arith
 refusal-numbered SheetFull k e = omega arith
 refusal-numbered SheetExceeded k e = omega arith
 
-module _ {before after : List ℕ} {at put : ℕ} (line points : ℕ) (answer : EndAnswer) {walk : Walk} {sheet : Sheet} {r : EndOutcome} (e : endReading (record { answer = answer; walk = walk; sheet = sheet }) ≡ r) where
-  pub accepted-end : {t : Totals} → answer ≡ Accepted t → Written before at (fitting before at (outlineLine (sheet .count) points t)) after put → Finished (carriedEnd line points r) before at after (record { walk = walk; sheet = sheet; put = put })
+module _ {before after : List ℕ} {at filled : ℕ} (line points : ℕ) (answer : EndAnswer) {walk : Walk} {sheet : Sheet} {r : EndOutcome} (e : endReading (record { answer = answer; walk = walk; sheet = sheet }) ≡ r) where
+  pub accepted-end : {t : Totals} → answer ≡ Accepted t → Written before at (fitting before at (outlineLine (sheet .count) points t)) after filled → Finished (carriedEnd line points r) before at after (record { walk = walk; sheet = sheet; filled = filled })
   unfolding carriedEnd
-  accepted-end f w = subst (λ q. Finished (carriedEnd line points q) before at after (record { walk = walk; sheet = sheet; put = put })) (ap (λ a. endReading (record { answer = a; walk = walk; sheet = sheet })) (sym f) ∙ e) (record { walk = refl; sheet = refl; text = w })
+  accepted-end f w = subst (λ q. Finished (carriedEnd line points q) before at after (record { walk = walk; sheet = sheet; filled = filled })) (ap (λ a. endReading (record { answer = a; walk = walk; sheet = sheet })) (sym f) ∙ e) (record { walk = refl; sheet = refl; text = w })
 
-  pub refused-end : OneOf (1 ∷ 2 ∷ 3 ∷ 4 ∷ 5 ∷ []) (tagOf the-type answer) → Written before at (fitting before at (refusalLine line (endNumber answer))) after put → Finished (carriedEnd line points r) before at after (record { walk = walk; sheet = sheet; put = put })
+  pub refused-end : OneOf (1 ∷ 2 ∷ 3 ∷ 4 ∷ 5 ∷ []) (tagOf the-type answer) → Written before at (fitting before at (refusalLine line (endNumber answer))) after filled → Finished (carriedEnd line points r) before at after (record { walk = walk; sheet = sheet; filled = filled })
   unfolding carriedEnd
-  refused-end k w = subst (λ q. Finished (carriedEnd line points q) before at after (record { walk = walk; sheet = sheet; put = put })) e (record { walk = refl; sheet = refl; text = rw (ne-eqb (endNumber answer) 0 (refusal-numbered answer k)) w })
+  refused-end k w = subst (λ q. Finished (carriedEnd line points q) before at after (record { walk = walk; sheet = sheet; filled = filled })) e (record { walk = refl; sheet = refl; text = rw (ne-eqb (endNumber answer) 0 (refusal-numbered answer k)) w })

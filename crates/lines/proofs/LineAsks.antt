@@ -5,8 +5,8 @@ use mathlib.Core.List.{List}
 use native.Mathlib.Omega.{arith}
 use lib.ListN.{take, drop}
 use Rattle.outline.specs.declared.Walk.{Walk}
-use Rattle.forms.specs.Grammar.{Form, begin, end, abandon, point, other, formOf}
-use Rattle.forms.specs.ReadForm.{lineLength, formed, formAt}
+use Rattle.parsing.specs.Grammar.{Form, begin, end, abandon, point, other, formOf}
+use Rattle.parsing.specs.ReadForm.{lineLength, formed, formAt}
 use Rattle.lines.specs.LineOutcomes.{asked, askedAt}
 
 own-form : (f : Form) (next : ℕ) → formed f next .form ≡ f

@@ -1,4 +1,4 @@
--- What the code of one line of the text program answers, in the terms of text/Program: ours; document 01 speaks of whole inputs.
+-- What the code of one line of the text program answers, in the terms of text_program/Program: ours; document 01 speaks of whole inputs.
 use Prim.Native.Nat.{ℕ, _+_}
 use mathlib.Core.Path.{_≡_}
 use mathlib.Core.Bool.{true, false}
@@ -6,10 +6,10 @@ use mathlib.Core.List.{List}
 use lib.ListN.{take, drop}
 use Rattle.outline.specs.declared.Walk.{Walk}
 use Rattle.outline.specs.WalkCalls.{WalkOutcome, refusedWalk, beginCall, pointCall, abandonCall}
-use Rattle.forms.specs.Grammar.{Form, begin, end, abandon, point, other, formOf}
-use Rattle.forms.specs.ReadForm.{lineLength}
-use Rattle.printing.specs.Put.{fitting, Written}
-use Rattle.text.specs.Program.{Carried}
+use Rattle.parsing.specs.Grammar.{Form, begin, end, abandon, point, other, formOf}
+use Rattle.parsing.specs.ReadForm.{lineLength}
+use Rattle.printing.specs.Buffer.{fitting, Written}
+use Rattle.text_program.specs.Program.{Carried}
 use Rattle.lines.specs.declared.Asked.{Asked}
 use Rattle.lines.specs.declared.Ended.{Ended}
 
@@ -37,4 +37,4 @@ askedAt w s at = let bs = drop at s in asked (formOf (take (lineLength bs) bs)) 
 pub record Finished (c : Carried) (before : List ℕ) (at : ℕ) (after : List ℕ) (r : Ended) : Type 0 where
   pub walk : r .walk ≡ c .walk
   pub sheet : r .sheet ≡ c .sheet
-  pub text : Written before at (fitting before at (c .output)) after (r .put)
+  pub text : Written before at (fitting before at (c .output)) after (r .filled)

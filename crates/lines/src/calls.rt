@@ -8,23 +8,23 @@ use outline::Walk;
 pub(crate) fn begin_walk(w: Walk, size: usize) -> Asked
     ensures { λ r. ⌜ r ≡ answered (beginCall w) size ⌝ }
 {
-    let r = begin_abandon::begin(w);
+    let r = walk_state::begin(w);
     let walk = r.walk;
     let a = r.answer;
     match a {
-        begin_abandon::BeginAnswer::Accepted => Asked {
+        walk_state::BeginAnswer::Accepted => Asked {
             walk,
             number: 0,
             size,
             is_end: false,
         },
-        begin_abandon::BeginAnswer::Unsound => Asked {
+        walk_state::BeginAnswer::Impossible => Asked {
             walk,
             number: 28,
             size,
             is_end: false,
         },
-        begin_abandon::BeginAnswer::AlreadyOpen => Asked {
+        walk_state::BeginAnswer::AlreadyOpen => Asked {
             walk,
             number: 22,
             size,
@@ -36,23 +36,23 @@ pub(crate) fn begin_walk(w: Walk, size: usize) -> Asked
 pub(crate) fn abandon_walk(w: Walk, size: usize) -> Asked
     ensures { λ r. ⌜ r ≡ answered (abandonCall w) size ⌝ }
 {
-    let r = begin_abandon::abandon(w);
+    let r = walk_state::abandon(w);
     let walk = r.walk;
     let a = r.answer;
     match a {
-        begin_abandon::AbandonAnswer::Accepted => Asked {
+        walk_state::AbandonAnswer::Accepted => Asked {
             walk,
             number: 0,
             size,
             is_end: false,
         },
-        begin_abandon::AbandonAnswer::Unsound => Asked {
+        walk_state::AbandonAnswer::Impossible => Asked {
             walk,
             number: 28,
             size,
             is_end: false,
         },
-        begin_abandon::AbandonAnswer::NotOpen => Asked {
+        walk_state::AbandonAnswer::NotOpen => Asked {
             walk,
             number: 21,
             size,
@@ -64,35 +64,35 @@ pub(crate) fn abandon_walk(w: Walk, size: usize) -> Asked
 pub(crate) fn extend_walk(w: Walk, x: i32, y: i32, size: usize) -> Asked
     ensures { λ r. ⌜ r ≡ answered (pointCall w (record { x = x; y = y })) size ⌝ }
 {
-    let r = survey::point(w, x, y);
+    let r = outline_calls::point(w, x, y);
     let walk = r.walk;
     let a = r.answer;
     match a {
-        survey::PointAnswer::Accepted => Asked {
+        outline_calls::PointAnswer::Accepted => Asked {
             walk,
             number: 0,
             size,
             is_end: false,
         },
-        survey::PointAnswer::Unsound => Asked {
+        outline_calls::PointAnswer::Impossible => Asked {
             walk,
             number: 28,
             size,
             is_end: false,
         },
-        survey::PointAnswer::NotOpen => Asked {
+        outline_calls::PointAnswer::NotOpen => Asked {
             walk,
             number: 21,
             size,
             is_end: false,
         },
-        survey::PointAnswer::OutsideLimits => Asked {
+        outline_calls::PointAnswer::OutsideLimits => Asked {
             walk,
             number: 1,
             size,
             is_end: false,
         },
-        survey::PointAnswer::Full => Asked {
+        outline_calls::PointAnswer::Full => Asked {
             walk,
             number: 23,
             size,

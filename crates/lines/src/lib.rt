@@ -1,9 +1,9 @@
 // One line of the text program: what it asks of the walk and the sheet, and what is printed of it.
 ghost use mathlib.Core.Path.{_≡_};
 ghost use Rattle.outline.specs.WalkCalls.{endCall};
-ghost use Rattle.survey.specs.WalkAnswers.{endNumber};
-ghost use Rattle.printing.specs.Put.{fitting, Written};
-ghost use Rattle.text.specs.Program.{told, carriedEnd};
+ghost use Rattle.outline_calls.specs.WalkAnswers.{endNumber};
+ghost use Rattle.printing.specs.Buffer.{fitting, Written};
+ghost use Rattle.text_program.specs.Program.{told, carriedEnd};
 ghost use Rattle.lines.specs.LineOutcomes.{askedAt, Finished};
 
 mod calls;
@@ -11,11 +11,11 @@ mod calls;
 use calls::abandon_walk;
 use calls::begin_walk;
 use calls::extend_walk;
-use forms::LineForm;
-use forms::line_form;
-use forms::newline;
 use outline::Sheet;
 use outline::Walk;
+use parsing::LineForm;
+use parsing::line_form;
+use parsing::newline;
 use printing::put_outline;
 use printing::put_refusal;
 
@@ -32,7 +32,7 @@ pub struct Asked {
 pub struct Ended {
     pub walk: Walk,
     pub sheet: Sheet,
-    pub put: usize,
+    pub filled: usize,
 }
 
 // What the line from `at` on asks for, be it ended by a newline or by the end of s. From there on s may have no byte: that is an empty line.
@@ -76,16 +76,16 @@ pub fn tell(number: u64, line: u64, out: &mut [u8], at: usize) -> usize
 }
 
 // Each answer's number in document 01, 0 where it accepts.
-fn end_number(a: survey::EndAnswer) -> u64
+fn end_number(a: outline_calls::EndAnswer) -> u64
     ensures { λ r. ⌜ r ≡ endNumber a ⌝ }
 {
     match a {
-        survey::EndAnswer::Accepted(_) => 0,
-        survey::EndAnswer::Unsound => 28,
-        survey::EndAnswer::NotOpen => 21,
-        survey::EndAnswer::TooFewPoints => 24,
-        survey::EndAnswer::SheetFull => 25,
-        survey::EndAnswer::SheetExceeded => 26,
+        outline_calls::EndAnswer::Accepted(_) => 0,
+        outline_calls::EndAnswer::Impossible => 28,
+        outline_calls::EndAnswer::NotOpen => 21,
+        outline_calls::EndAnswer::TooFewPoints => 24,
+        outline_calls::EndAnswer::SheetFull => 25,
+        outline_calls::EndAnswer::SheetExceeded => 26,
     }
 }
 
@@ -95,18 +95,26 @@ pub fn end_line(w: Walk, s: Sheet, line: u64, out: &mut [u8], at: usize) -> Ende
     ensures { λ r. ⌜ Finished (carriedEnd line (w .count) (endCall w s)) (now (out .entry)) at (now (out .exit)) r ⌝ }
 {
     let points = w.count;
-    let r = survey::end(w, s);
+    let r = outline_calls::end(w, s);
     let walk = r.walk;
     let sheet = r.sheet;
     let a = r.answer;
     match a {
-        survey::EndAnswer::Accepted(t) => {
-            let put = put_outline(out, at, sheet.count, points, t);
-            Ended { walk, sheet, put }
+        outline_calls::EndAnswer::Accepted(t) => {
+            let filled = put_outline(out, at, sheet.count, points, t);
+            Ended {
+                walk,
+                sheet,
+                filled,
+            }
         }
         _ => {
-            let put = put_refusal(out, at, line, end_number(a));
-            Ended { walk, sheet, put }
+            let filled = put_refusal(out, at, line, end_number(a));
+            Ended {
+                walk,
+                sheet,
+                filled,
+            }
         }
     }
 }

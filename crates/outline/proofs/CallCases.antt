@@ -11,18 +11,18 @@ use Rattle.outline.specs.declared.Sheet.{Sheet}
 use Rattle.outline.specs.EdgeSums.{plus, exceed}
 use Rattle.outline.specs.ListCall.{outside}
 use Rattle.outline.specs.MapCall.{totalLimits}
-use Rattle.outline.specs.WalkCalls.{opened, closed, extended, addedTotals, sheetWith, unsoundWalk, unsoundSheet, EndOutcome, refusedWalk, refusedEnd, beginCall, pointCall, endCall, abandonCall}
-use Rattle.outline.specs.CallLists.{Call, begin, point, end, abandon, numberOf, walkAfter, unsoundSheetIn}
+use Rattle.outline.specs.WalkCalls.{opened, closed, extended, addedTotals, sheetWith, impossibleWalk, impossibleSheet, EndOutcome, refusedWalk, refusedEnd, beginCall, pointCall, endCall, abandonCall}
+use Rattle.outline.specs.CallLists.{Call, begin, point, end, abandon, numberOf, walkAfter, impossibleSheetIn}
 
 -- The number of a refusal: not 0, and 28 only where 28 refuses the walk or the sheet.
-pub record Refusal (unsound : Bool) (n : ℕ) : Type 0 where
+pub record Refusal (impossible : Bool) (n : ℕ) : Type 0 where
   pub not-0 : n ≢ 0
-  pub only-28 : unsound ≡ false → n ≢ 28
+  pub only-28 : impossible ≡ false → n ≢ 28
 
-number-28 : {unsound : Bool} → unsound ≡ true → Refusal unsound 28
+number-28 : {impossible : Bool} → impossible ≡ true → Refusal impossible 28
 number-28 e = record { not-0 = eqb-false 28 0 refl; only-28 = λ f. absurd (true≢false (sym e ∙ f)) }
 
-other : (n : ℕ) {unsound : Bool} → eqb n 0 ≡ false → eqb n 28 ≡ false → Refusal unsound n
+other : (n : ℕ) {impossible : Bool} → eqb n 0 ≡ false → eqb n 28 ≡ false → Refusal impossible n
 other n e f = record { not-0 = eqb-false n 0 e; only-28 = λ g. eqb-false n 28 f }
 
 -- ---- end
@@ -34,14 +34,14 @@ pub record Ends (w : Walk) (s : Sheet) : Type 0 where
   pub within : exceed totalLimits (plus (s .totals) (addedTotals w)) ≡ false
 
 pub data EndCase (w : Walk) (s : Sheet) : EndOutcome → Type 0 where
-  refused : (n : ℕ) → Refusal (unsoundWalk w || unsoundSheet s) n → EndCase w s (refusedEnd n w s)
+  refused : (n : ℕ) → Refusal (impossibleWalk w || impossibleSheet s) n → EndCase w s (refusedEnd n w s)
   accepted : Ends w s → EndCase w s (record { number = 0; totals = addedTotals w; walk = closed; sheet = sheetWith s (addedTotals w) })
 
 pub end-case : (w : Walk) (s : Sheet) → EndCase w s (endCall w s)
 unfolding endCall
-end-case w s = go (unsoundWalk w || unsoundSheet s) (not (w .is_open)) (ltb (w .count) 3) (leb 64 (s .count)) (exceed totalLimits (plus (s .totals) (addedTotals w))) refl refl refl refl refl
+end-case w s = go (impossibleWalk w || impossibleSheet s) (not (w .is_open)) (ltb (w .count) 3) (leb 64 (s .count)) (exceed totalLimits (plus (s .totals) (addedTotals w))) refl refl refl refl refl
   where
-    go : (a b c d f : Bool) → (unsoundWalk w || unsoundSheet s) ≡ a → not (w .is_open) ≡ b → ltb (w .count) 3 ≡ c → leb 64 (s .count) ≡ d → exceed totalLimits (plus (s .totals) (addedTotals w)) ≡ f → EndCase w s (cond a (refusedEnd 28 w s) (cond b (refusedEnd 21 w s) (cond c (refusedEnd 24 w s) (cond d (refusedEnd 25 w s) (cond f (refusedEnd 26 w s) (record { number = 0; totals = addedTotals w; walk = closed; sheet = sheetWith s (addedTotals w) }))))))
+    go : (a b c d f : Bool) → (impossibleWalk w || impossibleSheet s) ≡ a → not (w .is_open) ≡ b → ltb (w .count) 3 ≡ c → leb 64 (s .count) ≡ d → exceed totalLimits (plus (s .totals) (addedTotals w)) ≡ f → EndCase w s (cond a (refusedEnd 28 w s) (cond b (refusedEnd 21 w s) (cond c (refusedEnd 24 w s) (cond d (refusedEnd 25 w s) (cond f (refusedEnd 26 w s) (record { number = 0; totals = addedTotals w; walk = closed; sheet = sheetWith s (addedTotals w) }))))))
     go true b c d f ea eb ec ed ef = refused 28 (number-28 ea)
     go false true c d f ea eb ec ed ef = refused 21 (other 21 refl refl)
     go false false true d f ea eb ec ed ef = refused 24 (other 24 refl refl)
@@ -58,20 +58,20 @@ pub data Taken (w : Walk) : Call → Walk → Type 0 where
   abandoned : w .is_open ≡ true → Taken w abandon closed
 
 pub data CallCase (w : Walk) (c : Call) : ℕ → Walk → Type 0 where
-  refused : (n : ℕ) → Refusal (unsoundWalk w || unsoundSheetIn c) n → CallCase w c n w
+  refused : (n : ℕ) → Refusal (impossibleWalk w || impossibleSheetIn c) n → CallCase w c n w
   accepted : {left : Walk} → Taken w c left → CallCase w c 0 left
 
 pub call-case : (w : Walk) (c : Call) → CallCase w c (numberOf w c) (walkAfter w c)
-unfolding numberOf walkAfter unsoundSheetIn beginCall pointCall abandonCall
-call-case w begin = go (unsoundWalk w) (w .is_open) refl refl
+unfolding numberOf walkAfter impossibleSheetIn beginCall pointCall abandonCall
+call-case w begin = go (impossibleWalk w) (w .is_open) refl refl
   where
-    go : (a b : Bool) → unsoundWalk w ≡ a → w .is_open ≡ b → (let r = cond a (refusedWalk 28 w) (cond b (refusedWalk 22 w) (record { number = 0; walk = opened })) in CallCase w begin (r .number) (r .walk))
+    go : (a b : Bool) → impossibleWalk w ≡ a → w .is_open ≡ b → (let r = cond a (refusedWalk 28 w) (cond b (refusedWalk 22 w) (record { number = 0; walk = opened })) in CallCase w begin (r .number) (r .walk))
     go true b ea eb = refused 28 (number-28 (rw ea))
     go false true ea eb = refused 22 (other 22 refl refl)
     go false false ea eb = accepted (begun eb)
-call-case w (point p) = go (unsoundWalk w) (not (w .is_open)) (outside p) (leb 1024 (w .count)) refl refl refl refl
+call-case w (point p) = go (impossibleWalk w) (not (w .is_open)) (outside p) (leb 1024 (w .count)) refl refl refl refl
   where
-    go : (a b c d : Bool) → unsoundWalk w ≡ a → not (w .is_open) ≡ b → outside p ≡ c → leb 1024 (w .count) ≡ d → (let r = cond a (refusedWalk 28 w) (cond b (refusedWalk 21 w) (cond c (refusedWalk 1 w) (cond d (refusedWalk 23 w) (record { number = 0; walk = extended w p })))) in CallCase w (point p) (r .number) (r .walk))
+    go : (a b c d : Bool) → impossibleWalk w ≡ a → not (w .is_open) ≡ b → outside p ≡ c → leb 1024 (w .count) ≡ d → (let r = cond a (refusedWalk 28 w) (cond b (refusedWalk 21 w) (cond c (refusedWalk 1 w) (cond d (refusedWalk 23 w) (record { number = 0; walk = extended w p })))) in CallCase w (point p) (r .number) (r .walk))
     go true b c d ea eb ec ed = refused 28 (number-28 (rw ea))
     go false true c d ea eb ec ed = refused 21 (other 21 refl refl)
     go false false true d ea eb ec ed = refused 1 (other 1 refl refl)
@@ -82,9 +82,9 @@ call-case w (end s) = go (endCall w s) (end-case w s)
     go : (e : EndOutcome) → EndCase w s e → CallCase w (end s) (e .number) (e .walk)
     go e (refused n r) = refused n r
     go e (accepted k) = accepted (ends s k)
-call-case w abandon = go (unsoundWalk w) (not (w .is_open)) refl refl
+call-case w abandon = go (impossibleWalk w) (not (w .is_open)) refl refl
   where
-    go : (a b : Bool) → unsoundWalk w ≡ a → not (w .is_open) ≡ b → (let r = cond a (refusedWalk 28 w) (cond b (refusedWalk 21 w) (record { number = 0; walk = closed })) in CallCase w abandon (r .number) (r .walk))
+    go : (a b : Bool) → impossibleWalk w ≡ a → not (w .is_open) ≡ b → (let r = cond a (refusedWalk 28 w) (cond b (refusedWalk 21 w) (record { number = 0; walk = closed })) in CallCase w abandon (r .number) (r .walk))
     go true b ea eb = refused 28 (number-28 (rw ea))
     go false true ea eb = refused 21 (other 21 refl refl)
     go false false ea eb = accepted (abandoned (not-false (w .is_open) eb))

@@ -7,7 +7,7 @@ use lib.IntN.{ℤ, pos, negsuc}
 use Rattle.outline.specs.declared.Walk.{Walk}
 use Rattle.outline.specs.EdgeSums.{zeros, over, exceed}
 use Rattle.outline.specs.ListCall.{points, outside, anyOutside, wrongLength, listCall}
-use Rattle.outline.specs.WalkCalls.{origin, opened, closed, newSheet, edgeTotals, extended, unsoundWalk, unsoundSheet, refusedWalk, refusedEnd, beginCall, pointCall, endCall, abandonCall}
+use Rattle.outline.specs.WalkCalls.{origin, opened, closed, newSheet, edgeTotals, extended, impossibleWalk, impossibleSheet, refusedWalk, refusedEnd, beginCall, pointCall, endCall, abandonCall}
 use Rattle.outline.proofs.WorkedInputs.{at, area, openWith, openOf, leftover, sheetOf}
 
 -- ---- one edge, from (2,3) to (7,11), whose cross product is 1: the terms of the table, which decide for a walk still open
@@ -23,7 +23,7 @@ record Fresh : Type 0 where
   sheet : newSheet ≡ record { count = 0; totals = area 0 }
 
 fresh : Fresh
-unfolding over exceed unsoundWalk beginCall abandonCall
+unfolding over exceed impossibleWalk beginCall abandonCall
 fresh = record { begun = refl; ended = refl; sheet = refl }
 
 -- ---- refusals answer zeros
@@ -33,7 +33,7 @@ record Zeros : Type 0 where
   end : endCall closed (sheetOf 9 (area 3)) ≡ record { number = 21; totals = area 0; walk = closed; sheet = sheetOf 9 (area 3) }
 
 refusals : Zeros
-unfolding over exceed points wrongLength listCall unsoundWalk unsoundSheet endCall
+unfolding over exceed points wrongLength listCall impossibleWalk impossibleSheet endCall
 refusals = record { list = refl; end = refl }
 
 -- ---- lists: 2 comes before 1, and the least i32 is outside the limits
@@ -54,17 +54,17 @@ record ClosedWalk : Type 0 where
   begin : beginCall leftover ≡ record { number = 0; walk = opened }
 
 closed-walk : ClosedWalk
-unfolding over exceed outside unsoundWalk unsoundSheet beginCall pointCall endCall abandonCall
+unfolding over exceed outside impossibleWalk impossibleSheet beginCall pointCall endCall abandonCall
 closed-walk = record { point = refl; end = refl; abandon = refl; begin = refl }
 
 -- ---- the sheet's half of 28 comes before 21; a sheet's count and totals need not agree
 
 record Sheets : Type 0 where
   too-many : endCall closed (sheetOf 65 zeros) ≡ refusedEnd 28 closed (sheetOf 65 zeros)
-  taken : unsoundSheet (sheetOf 0 (area 5)) ≡ false
+  taken : impossibleSheet (sheetOf 0 (area 5)) ≡ false
 
 sheets : Sheets
-unfolding over exceed outside unsoundWalk unsoundSheet endCall
+unfolding over exceed outside impossibleWalk impossibleSheet endCall
 sheets = record { too-many = refl; taken = refl }
 
 -- ---- an open walk of no points: its first and last are not looked at, its totals are
@@ -80,7 +80,7 @@ record NoPoints : Type 0 where
   area-without-points : pointCall (openOf 0 (area 1)) origin .number ≡ 28
 
 no-points : NoPoints
-unfolding over exceed outside extended unsoundWalk unsoundSheet beginCall pointCall endCall abandonCall
+unfolding over exceed outside extended impossibleWalk impossibleSheet beginCall pointCall endCall abandonCall
 no-points = record { point = refl; begin = refl; end = refl; abandon = refl; area-without-points = refl }
 
 -- ---- what an accepted call leaves of a walk handed in, its last point (9,9) not its first
@@ -96,7 +96,7 @@ record Left : Type 0 where
   abandon : abandonCall (handed 3) ≡ record { number = 0; walk = closed }
 
 left : Left
-unfolding over exceed outside extended unsoundWalk unsoundSheet pointCall endCall abandonCall
+unfolding over exceed outside extended impossibleWalk impossibleSheet pointCall endCall abandonCall
 left = record { point = refl; end = refl; abandon = refl }
 
 -- ---- walks handed in that no calls have made
@@ -113,5 +113,5 @@ record HandedIn : Type 0 where
   too-long : abandonCall (openOf 1025 zeros) ≡ refusedWalk 28 (openOf 1025 zeros)
 
 handed-in : HandedIn
-unfolding over exceed outside extended unsoundWalk unsoundSheet pointCall endCall abandonCall
+unfolding over exceed outside extended impossibleWalk impossibleSheet pointCall endCall abandonCall
 handed-in = record { one-point = refl; above-the-share = refl; three-points = refl; one-more = refl; large = refl; too-long = refl }

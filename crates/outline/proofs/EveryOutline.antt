@@ -15,33 +15,33 @@ use Rattle.outline.specs.declared.Sheet.{Sheet}
 use Rattle.outline.specs.EdgeSums.{openEdges, sumOver, outlineTotals, over, exceed}
 use Rattle.outline.specs.ListCall.{accepted, points, listCall}
 use Rattle.outline.specs.MapCall.{totalLimits}
-use Rattle.outline.specs.WalkCalls.{closed, newSheet, unsoundSheet, beginCall, pointCall, endCall}
+use Rattle.outline.specs.WalkCalls.{closed, newSheet, impossibleSheet, beginCall, pointCall, endCall}
 use Rattle.outline.specs.CallLists.{begin, point, end, numberOf, walkAfter, pointsWith, next, after, from, walkOf}
 use Rattle.outline.specs.EveryOutline.{answers, Room, endedWith, EveryOutline}
 use Rattle.outline.proofs.Every.{All, all-append, all-member}
 use Rattle.outline.proofs.TotalsLaws.{zeros-plus}
 use Rattle.outline.proofs.Limits.{Inside, not-outside, Outline, accepts-only-outlines, fit-exceed, limits-fit, accepted-fit}
-use Rattle.outline.proofs.WalkOf.{extended-is, closed-is, sound-walk, sound-closed}
+use Rattle.outline.proofs.WalkOf.{extended-is, closed-is, possible-walk, possible-closed}
 use Rattle.outline.proofs.WalkedOutline.{traceOf}
 
 -- A new sheet has room for every outline.
 pub new-sheet-room : (zs : List ℤ) (t : Totals) → listCall zs ≡ accepted t → Room newSheet t
-unfolding unsoundSheet exceed over
-new-sheet-room zs t e = record { sound = refl; count = omega arith; totals = ap (exceed totalLimits) (zeros-plus t) ∙ fit-exceed totalLimits t (limits-fit t (accepted-fit zs t e)) }
+unfolding impossibleSheet exceed over
+new-sheet-room zs t e = record { possible = refl; count = omega arith; totals = ap (exceed totalLimits) (zeros-plus t) ∙ fit-exceed totalLimits t (limits-fit t (accepted-fit zs t e)) }
 
 -- ---- begin, the points and the end, each accepted
 
 begin-answer : (w : Walk) → w .is_open ≡ false → beginCall w ≡ record { number = 0; walk = walkOf [] }
 unfolding beginCall openEdges sumOver
-begin-answer w h = rw (sound-closed w h, h)
+begin-answer w h = rw (possible-closed w h, h)
 
 point-answer : (qs : List Position) → length qs < 1024 → All Inside qs → (p : Position) → Inside p → pointCall (walkOf qs) p ≡ record { number = 0; walk = walkOf (qs ++ p ∷ []) }
 unfolding pointCall
-point-answer qs n h p k = rw (sound-walk qs (omega arith) h, not-outside p k, lt-leb 1024 (length qs) n, extended-is qs p)
+point-answer qs n h p k = rw (possible-walk qs (omega arith) h, not-outside p k, lt-leb 1024 (length qs) n, extended-is qs p)
 
 end-answer : (ps : List Position) (s : Sheet) → Outline ps → Room s (outlineTotals ps) → endCall (walkOf ps) s ≡ endedWith s (outlineTotals ps)
 unfolding endCall
-end-answer ps s o = subst (λ t. Room s t → endCall (walkOf ps) s ≡ endedWith s t) (closed-is ps (o .enough)) (λ room. rw (sound-walk ps (o .few) (o .inside), room .sound, le-ltb (length ps) 3 (o .enough), lt-leb 64 (s .count) (room .count), room .totals))
+end-answer ps s o = subst (λ t. Room s t → endCall (walkOf ps) s ≡ endedWith s t) (closed-is ps (o .enough)) (λ room. rw (possible-walk ps (o .few) (o .inside), room .possible, le-ltb (length ps) 3 (o .enough), lt-leb 64 (s .count) (room .count), room .totals))
 
 -- ---- from the walk that has taken qs: the points ps and then the end
 

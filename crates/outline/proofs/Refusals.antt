@@ -14,8 +14,8 @@ use Rattle.outline.specs.declared.Sheet.{Sheet}
 use Rattle.outline.specs.EdgeSums.{outlineTotals, zeros, exceed, outlineBounds}
 use Rattle.outline.specs.ListCall.{accepted, refused, points, anyOutside, wrongLength, listCall}
 use Rattle.outline.specs.MapCall.{disallowed, mapped, totalLimits, mapCall}
-use Rattle.outline.specs.WalkCalls.{unsoundWalk, EndOutcome, beginCall, pointCall, endCall, abandonCall}
-use Rattle.outline.specs.CallLists.{Call, begin, point, end, abandon, numberOf, walkAfter, unsoundSheetIn}
+use Rattle.outline.specs.WalkCalls.{impossibleWalk, EndOutcome, beginCall, pointCall, endCall, abandonCall}
+use Rattle.outline.specs.CallLists.{Call, begin, point, end, abandon, numberOf, walkAfter, impossibleSheetIn}
 use Rattle.integers.proofs.Flags.{neither}
 use Rattle.outline.proofs.CallCases as Case
 
@@ -80,7 +80,7 @@ end-unchanged w s = go (endCall w s) (Case.end-case w s)
     go e (Case.accepted k) h = absurd (h refl)
 
 -- A call with a walk and a sheet that 28 does not refuse is not answered with 28.
-pub not-28 : (w : Walk) → unsoundWalk w ≡ false → (c : Call) → unsoundSheetIn c ≡ false → numberOf w c ≢ 28
+pub not-28 : (w : Walk) → impossibleWalk w ≡ false → (c : Call) → impossibleSheetIn c ≡ false → numberOf w c ≢ 28
 not-28 w e c f = go (numberOf w c) (walkAfter w c) (Case.call-case w c)
   where
     go : (n : ℕ) (left : Walk) → Case.CallCase w c n left → n ≢ 28
@@ -88,9 +88,9 @@ not-28 w e c f = go (numberOf w c) (walkAfter w c) (Case.call-case w c)
     go n left (Case.accepted k) = λ h. omega arith
 
 -- 28 comes first: a call with a walk or a sheet that 28 refuses is answered with 28, whatever else is wrong.
-pub first-28 : (w : Walk) (c : Call) → (unsoundWalk w || unsoundSheetIn c) ≡ true → numberOf w c ≡ 28
-unfolding numberOf unsoundSheetIn beginCall pointCall endCall abandonCall
-first-28 w begin e = rw (sym (or-false (unsoundWalk w)) ∙ e, numberOf)
-first-28 w (point p) e = rw (sym (or-false (unsoundWalk w)) ∙ e, numberOf)
+pub first-28 : (w : Walk) (c : Call) → (impossibleWalk w || impossibleSheetIn c) ≡ true → numberOf w c ≡ 28
+unfolding numberOf impossibleSheetIn beginCall pointCall endCall abandonCall
+first-28 w begin e = rw (sym (or-false (impossibleWalk w)) ∙ e, numberOf)
+first-28 w (point p) e = rw (sym (or-false (impossibleWalk w)) ∙ e, numberOf)
 first-28 w (end s) e = rw (e, numberOf)
-first-28 w abandon e = rw (sym (or-false (unsoundWalk w)) ∙ e, numberOf)
+first-28 w abandon e = rw (sym (or-false (impossibleWalk w)) ∙ e, numberOf)

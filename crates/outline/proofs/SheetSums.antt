@@ -13,7 +13,7 @@ use Rattle.outline.specs.declared.Walk.{Walk}
 use Rattle.outline.specs.declared.Sheet.{Sheet}
 use Rattle.outline.specs.EdgeSums.{outlineTotals, plus, over, exceed}
 use Rattle.outline.specs.Pieces.{sumOf}
-use Rattle.outline.specs.WalkCalls.{newSheet, addedTotals, sheetWith, unsoundSheet, EndOutcome, endCall}
+use Rattle.outline.specs.WalkCalls.{newSheet, addedTotals, sheetWith, impossibleSheet, EndOutcome, endCall}
 use Rattle.outline.specs.CallLists.{sheetAfter, addedBy, Walking, reached, outlinesOn}
 use Rattle.outline.specs.SheetSums.{HoldsSums, SheetSums, WalkedSheetSums}
 use Rattle.integers.proofs.Flags.{neither}
@@ -27,31 +27,31 @@ use Rattle.outline.proofs.WalkedOutline.{walked-outline}
 record Grown (s : Sheet) (ts : List Totals) (left : Sheet) : Type 0 where
   count : left .count ≡ s .count + length ts
   totals : left .totals ≡ plus (s .totals) (sumOf ts)
-  sound : unsoundSheet left ≡ false
+  possible : impossibleSheet left ≡ false
 
 one-more : (s : Sheet) (t : Totals) (ts : List Totals) (left : Sheet) → Grown (sheetWith s t) ts left → Grown s (t ∷ ts) left
 unfolding sumOf
-one-more s t ts left g = record { count = omega (arith, g .count); totals = g .totals ∙ plus-assoc (s .totals) t (sumOf ts); sound = g .sound }
+one-more s t ts left g = record { count = omega (arith, g .count); totals = g .totals ∙ plus-assoc (s .totals) t (sumOf ts); possible = g .possible }
 
-grown : (ws : List Walk) (s : Sheet) → unsoundSheet s ≡ false → Grown s (addedBy s ws) (sheetAfter s ws)
-unfolding sheetAfter addedBy sumOf unsoundSheet
-grown [] s m = record { count = omega arith; totals = sym (plus-zeros (s .totals)); sound = m }
+grown : (ws : List Walk) (s : Sheet) → impossibleSheet s ≡ false → Grown s (addedBy s ws) (sheetAfter s ws)
+unfolding sheetAfter addedBy sumOf impossibleSheet
+grown [] s m = record { count = omega arith; totals = sym (plus-zeros (s .totals)); possible = m }
 grown (w ∷ ws) s m = go (λ r k. grown ws r k) (endCall w s) (Case.end-case w s)
   where
-    go : ((r : Sheet) → unsoundSheet r ≡ false → Grown r (addedBy r ws) (sheetAfter r ws)) → (e : EndOutcome) → Case.EndCase w s e → Grown s (cond (eqb (e .number) 0) (e .totals ∷ addedBy (e .sheet) ws) (addedBy (e .sheet) ws)) (sheetAfter (e .sheet) ws)
+    go : ((r : Sheet) → impossibleSheet r ≡ false → Grown r (addedBy r ws) (sheetAfter r ws)) → (e : EndOutcome) → Case.EndCase w s e → Grown s (cond (eqb (e .number) 0) (e .totals ∷ addedBy (e .sheet) ws) (addedBy (e .sheet) ws)) (sheetAfter (e .sheet) ws)
     go rest e (Case.refused n k) = rw (ne-eqb n 0 (k .not-0)) (rest s m)
     go rest e (Case.accepted k) =
         let added = sheetWith s (addedTotals w) in
-        let sound = neither (le-ltb 64 (s .count + 1) (omega (arith, k .room))) (k .within) in
-        one-more s (addedTotals w) (addedBy added ws) (sheetAfter added ws) (rest added sound)
+        let possible = neither (le-ltb 64 (s .count + 1) (omega (arith, k .room))) (k .within) in
+        one-more s (addedTotals w) (addedBy added ws) (sheetAfter added ws) (rest added possible)
 
 -- ---- the theorem
 
 pub sheet-sums : SheetSums
-unfolding unsoundSheet exceed over
+unfolding impossibleSheet exceed over
 sheet-sums ws =
     let g = grown ws newSheet refl in
-    record { count = omega (arith, g .count); totals = g .totals ∙ zeros-plus (sumOf (addedBy newSheet ws)); sound = g .sound }
+    record { count = omega (arith, g .count); totals = g .totals ∙ zeros-plus (sumOf (addedBy newSheet ws)); possible = g .possible }
 
 -- ---- walked outlines
 

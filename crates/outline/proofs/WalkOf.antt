@@ -12,7 +12,7 @@ use Rattle.outline.specs.declared.Position.{Position}
 use Rattle.outline.specs.declared.Walk.{Walk}
 use Rattle.outline.specs.EdgeSums.{plus, openEdges, edges, sumOver, totalsOver, outlineTotals}
 use Rattle.outline.specs.ListCall.{outside}
-use Rattle.outline.specs.WalkCalls.{origin, edgeTotals, extended, closedTotals, share, unsoundWalk}
+use Rattle.outline.specs.WalkCalls.{origin, edgeTotals, extended, closedTotals, share, impossibleWalk}
 use Rattle.outline.specs.CallLists.{firstOf, lastOf, walkOf}
 use Rattle.integers.proofs.Flags.{neither}
 use Rattle.outline.proofs.Every.{All, all-at}
@@ -51,10 +51,10 @@ ends-inside : (ps : List Position) → All Inside ps → (not (eqb (length ps) 0
 ends-inside [] h = refl
 ends-inside (a ∷ ps) h = rw (eqb·suc-zero (length ps)) (neither (not-outside a (h .0)) (not-outside (lastOf (a ∷ ps)) (all-at Inside (a ∷ ps) (length ps) origin h (omega arith))))
 
-pub sound-walk : (ps : List Position) → length ps ≤ 1024 → All Inside ps → unsoundWalk (walkOf ps) ≡ false
-unfolding unsoundWalk
-sound-walk ps n h = neither (neither (le-ltb 1024 (length ps) n) (ends-inside ps h)) (fit-exceed (share (length ps)) (totalsOver (openEdges ps)) (open-fit ps h))
+pub possible-walk : (ps : List Position) → length ps ≤ 1024 → All Inside ps → impossibleWalk (walkOf ps) ≡ false
+unfolding impossibleWalk
+possible-walk ps n h = neither (neither (le-ltb 1024 (length ps) n) (ends-inside ps h)) (fit-exceed (share (length ps)) (totalsOver (openEdges ps)) (open-fit ps h))
 
-pub sound-closed : (w : Walk) → w .is_open ≡ false → unsoundWalk w ≡ false
-unfolding unsoundWalk
-sound-closed w h = rw h
+pub possible-closed : (w : Walk) → w .is_open ≡ false → impossibleWalk w ≡ false
+unfolding impossibleWalk
+possible-closed w h = rw h

@@ -21,7 +21,7 @@ pub walked-again : WalkedAgain
 walked-again first second s accepts-first q accepts-second start direction m allowed bounds e =
     let r = reached first in
     let p = points-numbers (r .points) in
-    let one = no-cut (numbers (r .points)) (endCall (r .walk) s .totals) (walked-outline first .same s accepts-first) start direction m allowed (ap (λ ps. anyOutside (moved m ps)) p ∙ bounds) in
+    let one = no-cut (numbers (r .points)) (endCall (r .walk) s .totals) (walked-outline first .list-call-agrees s accepts-first) start direction m allowed (ap (λ ps. anyOutside (moved m ps)) p ∙ bounds) in
     let taken : reached second .points ≡ moved m (startAt start (walked direction (points (numbers (r .points))))) = e ∙ ap (λ ps. moved m (startAt start (walked direction ps))) (sym p) in
-    let again = sym (walked-outline second .same q accepts-second) ∙ ap (λ ps. listCall (numbers ps)) taken ∙ one .list-accepts in
+    let again = sym (walked-outline second .list-call-agrees q accepts-second) ∙ ap (λ ps. listCall (numbers ps)) taken ∙ one .list-accepts in
     one .map-accepts ∙ ap accepted (sym (directed-twice direction (one .image)) ∙ sym (ap (λ a. directed direction (a .totals)) again))

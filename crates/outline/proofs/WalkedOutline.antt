@@ -15,7 +15,7 @@ use Rattle.outline.specs.EdgeSums.{openEdges, sumOver, outlineTotals, ou
 use Rattle.outline.specs.ListCall.{accepted, numbers, outside, anyOutside}
 use Rattle.outline.specs.MapCall.{moved}
 use Rattle.outline.specs.Pieces.{piecesOf, placed}
-use Rattle.outline.specs.WalkCalls.{EndOutcome, closedTotals, extended, unsoundWalk, endCall}
+use Rattle.outline.specs.WalkCalls.{EndOutcome, closedTotals, extended, impossibleWalk, endCall}
 use Rattle.outline.specs.CallLists.{Call, numberOf, walkAfter, pointsWith, Trace, next, after, walkOf, Walking, reached}
 use Rattle.outline.specs.PiecesAddUp.{AddUpMoved}
 use Rattle.outline.specs.WalkedOutline.{WalkedOutline, WalkedPieces}
@@ -26,7 +26,7 @@ use Rattle.outline.proofs.PiecesAddUp.{pieces-add-up}
 use Rattle.outline.proofs.CallCases as Case
 use Rattle.outline.proofs.CallCases.{Taken, begun, extends, ends, abandoned}
 use Rattle.outline.proofs.Refusals.{not-28}
-use Rattle.outline.proofs.WalkOf.{extended-is, closed-is, sound-walk, sound-closed}
+use Rattle.outline.proofs.WalkOf.{extended-is, closed-is, possible-walk, possible-closed}
 
 -- ---- what every list of calls keeps
 
@@ -67,9 +67,9 @@ kept-after (c ∷ calls) k = kept-after calls (call-keeps c k)
 
 -- ---- what the claims need
 
-kept-sound : {r : Trace} → Kept r → unsoundWalk (r .walk) ≡ false
-kept-sound {r} (not-open h) = sound-closed (r .walk) h
-kept-sound (walking ps n h) = sound-walk ps n h
+kept-possible : {r : Trace} → Kept r → impossibleWalk (r .walk) ≡ false
+kept-possible {r} (not-open h) = possible-closed (r .walk) h
+kept-possible (walking ps n h) = possible-walk ps n h
 
 kept-walk : {r : Trace} → Kept r → r .walk .is_open ≡ true → r .walk ≡ walkOf (r .points)
 kept-walk (not-open h) e = absurd (true≢false (sym e ∙ h))
@@ -93,16 +93,16 @@ walked-outline k =
     let r = reached k in
     let kept = kept-after (k .calls) (not-open (k .is-closed)) in
     record {
-      sound = kept-sound kept;
-      never-28 = not-28 (r .walk) (kept-sound kept);
+      possible = kept-possible kept;
+      never-28 = not-28 (r .walk) (kept-possible kept);
       is-walk = kept-walk kept;
       edge-sums = λ s e. accepted-end kept s e .1;
-      same = λ s e. let o = accepted-end kept s e in accepts-points (r .points) (o .0) ∙ ap accepted (sym (o .1));
+      list-call-agrees = λ s e. let o = accepted-end kept s e in accepts-points (r .points) (o .0) ∙ ap accepted (sym (o .1));
     }
 
 -- The totals of an accepted end are within the outline bounds,
 pub walked-within : (k : Walking) (s : Sheet) → endCall (reached k .walk) s .number ≡ 0 → exceed outlineBounds (endCall (reached k .walk) s .totals) ≡ false
-walked-within k s e = accepted-within (numbers (reached k .points)) (endCall (reached k .walk) s .totals) (walked-outline k .same s e)
+walked-within k s e = accepted-within (numbers (reached k .points)) (endCall (reached k .walk) s .totals) (walked-outline k .list-call-agrees s e)
 
 -- and demand 3 holds of them and of the points, whole.
 pub walked-pieces : WalkedPieces
@@ -110,4 +110,4 @@ walked-pieces k s e cuts start direction m allowed bounds =
     let r = reached k in
     let q = points-numbers (r .points) in
     subst (λ ps. AddUpMoved m direction (endCall (r .walk) s .totals) (map (moved m) (placed direction start (piecesOf ps cuts)))) q
-    (pieces-add-up (numbers (r .points)) (endCall (r .walk) s .totals) (walked-outline k .same s e) cuts start direction m allowed (ap (λ ps. anyOutside (moved m ps)) q ∙ bounds))
+    (pieces-add-up (numbers (r .points)) (endCall (r .walk) s .totals) (walked-outline k .list-call-agrees s e) cuts start direction m allowed (ap (λ ps. anyOutside (moved m ps)) q ∙ bounds))

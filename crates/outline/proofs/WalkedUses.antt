@@ -15,8 +15,8 @@ use Rattle.outline.specs.EdgeSums.{openEdges, edges, sumOver, over, exce
 use Rattle.outline.specs.ListCall.{accepted, points, numbers, outside, anyOutside, listCall}
 use Rattle.outline.specs.MapCall.{moved, disallowed, mapCall}
 use Rattle.outline.specs.Pieces.{Cut, piecesOf, startAt, Direction, backwards, walked, placed, totalsOf, sumOf, directed}
-use Rattle.outline.specs.WalkCalls.{origin, closed, newSheet, extended, sheetWith, unsoundWalk, unsoundSheet, beginCall, pointCall, endCall, abandonCall}
-use Rattle.outline.specs.CallLists.{begin, point, end, abandon, numberOf, walkAfter, unsoundSheetIn, pointsWith, next, after, from, walkOf, sheetAfter, addedBy, Walking, reached, outlinesOn}
+use Rattle.outline.specs.WalkCalls.{origin, closed, newSheet, extended, sheetWith, impossibleWalk, impossibleSheet, beginCall, pointCall, endCall, abandonCall}
+use Rattle.outline.specs.CallLists.{begin, point, end, abandon, numberOf, walkAfter, impossibleSheetIn, pointsWith, next, after, from, walkOf, sheetAfter, addedBy, Walking, reached, outlinesOn}
 use Rattle.outline.specs.PiecesAddUp.{AddUpMoved}
 use Rattle.outline.specs.EveryOutline.{answers, Room, Walkable}
 use Rattle.outline.specs.SheetSums.{HoldsSums}
@@ -49,19 +49,19 @@ second =
     }
 
 first-points : reached first .points ≡ points pentagon
-unfolding points over exceed outside extended unsoundWalk unsoundSheet beginCall pointCall endCall abandonCall numberOf walkAfter pointsWith next after
+unfolding points over exceed outside extended impossibleWalk impossibleSheet beginCall pointCall endCall abandonCall numberOf walkAfter pointsWith next after
 first-points = refl
 
 second-points : reached second .points ≡ moved mirror (startAt 3 (walked backwards (reached first .points)))
-unfolding over exceed outside extended unsoundWalk unsoundSheet beginCall pointCall endCall abandonCall numberOf walkAfter pointsWith next after walked
+unfolding over exceed outside extended impossibleWalk impossibleSheet beginCall pointCall endCall abandonCall numberOf walkAfter pointsWith next after walked
 second-points = refl
 
 first-ends : endCall (reached first .walk) newSheet .number ≡ 0
-unfolding over exceed outside extended unsoundWalk unsoundSheet beginCall pointCall endCall abandonCall numberOf walkAfter pointsWith next after
+unfolding over exceed outside extended impossibleWalk impossibleSheet beginCall pointCall endCall abandonCall numberOf walkAfter pointsWith next after
 first-ends = refl
 
 second-ends : endCall (reached second .walk) newSheet .number ≡ 0
-unfolding over exceed outside extended unsoundWalk unsoundSheet beginCall pointCall endCall abandonCall numberOf walkAfter pointsWith next after
+unfolding over exceed outside extended impossibleWalk impossibleSheet beginCall pointCall endCall abandonCall numberOf walkAfter pointsWith next after
 second-ends = refl
 
 -- The last place of a sheet whose totals the pentagon brings to 10^18.
@@ -69,36 +69,36 @@ abbrev lastPlace : Sheet
 lastPlace = sheetOf 63 (record { a2 = pos 999_999_999_999_999_970; x6 = pos 999_999_999_999_999_804; y6 = pos 999_999_999_999_999_846; xx12 = pos 999_999_999_999_998_864; xy24 = pos 999_999_999_999_998_684; yy12 = pos 999_999_999_999_999_298 })
 
 first-ends-there : endCall (reached first .walk) lastPlace .number ≡ 0
-unfolding over exceed outside extended unsoundWalk unsoundSheet beginCall pointCall endCall abandonCall numberOf walkAfter pointsWith next after
+unfolding over exceed outside extended impossibleWalk impossibleSheet beginCall pointCall endCall abandonCall numberOf walkAfter pointsWith next after
 first-ends-there = refl
 
 -- The points of a walk that has ended, or was abandoned, stay in the trace until the next begin.
 ended-points : after (from closed) (begin ∷ point origin ∷ point origin ∷ point origin ∷ end newSheet ∷ []) .points ≡ origin ∷ origin ∷ origin ∷ []
-unfolding over exceed outside extended unsoundWalk unsoundSheet beginCall pointCall endCall numberOf walkAfter pointsWith next after
+unfolding over exceed outside extended impossibleWalk impossibleSheet beginCall pointCall endCall numberOf walkAfter pointsWith next after
 ended-points = refl
 
 abandoned-points : after (from closed) (begin ∷ point origin ∷ abandon ∷ []) .points ≡ origin ∷ []
-unfolding over exceed outside extended unsoundWalk beginCall pointCall abandonCall numberOf walkAfter pointsWith next after
+unfolding over exceed outside extended impossibleWalk beginCall pointCall abandonCall numberOf walkAfter pointsWith next after
 abandoned-points = refl
 
 -- ---- walked outlines
 
-sound : unsoundWalk (reached first .walk) ≡ false
-sound = walked-outline first .sound
+possible : impossibleWalk (reached first .walk) ≡ false
+possible = walked-outline first .possible
 
 never-28 : numberOf (reached first .walk) (end (sheetOf 64 zeros)) ≢ 28
-unfolding unsoundSheetIn unsoundSheet exceed over
+unfolding impossibleSheetIn impossibleSheet exceed over
 never-28 = walked-outline first .never-28 (end (sheetOf 64 zeros)) refl
 
 is-walk : reached first .walk ≡ walkOf (reached first .points)
-unfolding over exceed outside extended unsoundWalk unsoundSheet beginCall pointCall endCall abandonCall numberOf walkAfter pointsWith next after
+unfolding over exceed outside extended impossibleWalk impossibleSheet beginCall pointCall endCall abandonCall numberOf walkAfter pointsWith next after
 is-walk = walked-outline first .is-walk refl
 
 edge-sums : endCall (reached first .walk) newSheet .totals ≡ outlineTotals (reached first .points)
 edge-sums = walked-outline first .edge-sums newSheet first-ends
 
 same : listCall (numbers (reached first .points)) ≡ accepted (endCall (reached first .walk) newSheet .totals)
-same = walked-outline first .same newSheet first-ends
+same = walked-outline first .list-call-agrees newSheet first-ends
 
 computed : outlineTotals (points pentagon) ≡ pentagonTotals
 unfolding openEdges edges sumOver points
@@ -127,7 +127,7 @@ abbrev ended : List Walk
 ended = reached first .walk ∷ closed ∷ reached second .walk ∷ openOf 3 pentagonTotals ∷ []
 
 added : addedBy newSheet ended ≡ pentagonTotals ∷ negated mirrored ∷ pentagonTotals ∷ []
-unfolding over exceed outside extended unsoundWalk unsoundSheet beginCall pointCall endCall abandonCall numberOf walkAfter pointsWith next after addedBy
+unfolding over exceed outside extended impossibleWalk impossibleSheet beginCall pointCall endCall abandonCall numberOf walkAfter pointsWith next after addedBy
 added = refl
 
 sheet-count : sheetAfter newSheet ended .count ≡ 3
@@ -136,8 +136,8 @@ sheet-count = sheet-sums ended .count ∙ ap length added
 sheet-totals : sheetAfter newSheet ended .totals ≡ sumOf (pentagonTotals ∷ negated mirrored ∷ pentagonTotals ∷ [])
 sheet-totals = sheet-sums ended .totals ∙ ap sumOf added
 
-sheet-sound : unsoundSheet (sheetAfter newSheet ended) ≡ false
-sheet-sound = sheet-sums ended .sound
+sheet-possible : impossibleSheet (sheetAfter newSheet ended) ≡ false
+sheet-possible = sheet-sums ended .possible
 
 -- A walk never begun, whose end is refused.
 abbrev notBegun : Walking
@@ -147,7 +147,7 @@ abbrev walks : List Walking
 walks = first ∷ notBegun ∷ second ∷ []
 
 outlines : outlinesOn newSheet (map reached walks) ≡ reached first .points ∷ reached second .points ∷ []
-unfolding over exceed outside extended unsoundWalk unsoundSheet beginCall pointCall endCall abandonCall numberOf walkAfter pointsWith next after outlinesOn
+unfolding over exceed outside extended impossibleWalk impossibleSheet beginCall pointCall endCall abandonCall numberOf walkAfter pointsWith next after outlinesOn
 outlines = refl
 
 walked-totals : sheetAfter newSheet (map (λ k. reached k .walk) walks) .totals ≡ sumOf (outlineTotals (reached first .points) ∷ outlineTotals (reached second .points) ∷ [])
@@ -156,14 +156,14 @@ walked-totals = walked-sheet-sums walks .totals ∙ ap (λ os. sumOf (map outlin
 walked-count : sheetAfter newSheet (map (λ k. reached k .walk) walks) .count ≡ 2
 walked-count = walked-sheet-sums walks .count ∙ ap (λ os. length (map outlineTotals os)) outlines
 
-walked-sound : unsoundSheet (sheetAfter newSheet (map (λ k. reached k .walk) walks)) ≡ false
-walked-sound = walked-sheet-sums walks .sound
+walked-possible : impossibleSheet (sheetAfter newSheet (map (λ k. reached k .walk) walks)) ≡ false
+walked-possible = walked-sheet-sums walks .possible
 
 -- ---- the pentagon can be walked, also from the walk with leftover fields, and into the last place of a sheet
 
 last-place : Room lastPlace pentagonTotals
-unfolding unsoundSheet exceed over
-last-place = record { sound = refl; count = omega arith; totals = refl }
+unfolding impossibleSheet exceed over
+last-place = record { possible = refl; count = omega arith; totals = refl }
 
 pentagon-walked : Walkable leftover (points pentagon) lastPlace pentagonTotals
 pentagon-walked = every-outline pentagon pentagonTotals pentagon-taken leftover refl lastPlace last-place

@@ -12,7 +12,7 @@ use Rattle.outline.specs.declared.AffineMap.{AffineMap}
 use Rattle.outline.specs.EdgeSums.{zeros, over, exceed}
 use Rattle.outline.specs.ListCall.{points, outside, anyOutside, wrongLength, listCall}
 use Rattle.outline.specs.MapCall.{disallowed, mapCall}
-use Rattle.outline.specs.WalkCalls.{origin, opened, closed, newSheet, extended, unsoundWalk, unsoundSheet, pointCall, endCall, abandonCall}
+use Rattle.outline.specs.WalkCalls.{origin, opened, closed, newSheet, extended, impossibleWalk, impossibleSheet, pointCall, endCall, abandonCall}
 use Rattle.outline.proofs.PiecesLaws.{identity}
 use Rattle.outline.proofs.WorkedInputs.{at, eachAlone, openWith, openOf, sheetOf, doubling}
 
@@ -37,20 +37,20 @@ allSizes n = record { a2 = n; x6 = n; y6 = n; xx12 = n; xy24 = n; yy12 = n }
 
 -- 28 of a walk: the share of its points, 0 where it has none, the outline bounds where it has 1,024.
 share-of-3 : Limited (λ t. pointCall (openOf 3 t) origin .number) shareOfThree 0 28
-unfolding over exceed outside unsoundWalk pointCall
+unfolding over exceed outside impossibleWalk pointCall
 share-of-3 = record { greatest = refl; least = refl; above = refl; below = refl }
 
 share-of-1024 : Limited (λ t. abandonCall (openOf 1024 t) .number) outlineSizes 0 28
-unfolding over exceed outside unsoundWalk abandonCall
+unfolding over exceed outside impossibleWalk abandonCall
 share-of-1024 = record { greatest = refl; least = refl; above = refl; below = refl }
 
 share-of-none : Limited (λ t. abandonCall (openOf 0 t) .number) (allSizes 0) 0 28
-unfolding over exceed outside unsoundWalk abandonCall
+unfolding over exceed outside impossibleWalk abandonCall
 share-of-none = record { greatest = refl; least = refl; above = refl; below = refl }
 
 -- 28 of a sheet: 10^18. The walk is closed, so that 21 comes where 28 does not.
 sheet-limit : Limited (λ t. endCall closed (sheetOf 0 t) .number) (allSizes 1_000_000_000_000_000_000) 21 28
-unfolding over exceed unsoundWalk unsoundSheet endCall
+unfolding over exceed impossibleWalk impossibleSheet endCall
 sheet-limit = record { greatest = refl; least = refl; above = refl; below = refl }
 
 -- 4: the outline bounds, under the map that moves nothing.
@@ -67,12 +67,12 @@ record Filled : Type 0 where
   down : map (λ t. endCall (openOf 3 t) (sheetOf 0 (allTotals (negsuc 999_999_999_999_999_998))) .number) (eachAlone negsuc (allSizes 0) ++ eachAlone negsuc (allSizes 1)) ≡ replicate 6 0 ++ replicate 6 26
 
 filled : Filled
-unfolding over exceed outside unsoundWalk unsoundSheet endCall
+unfolding over exceed outside impossibleWalk impossibleSheet endCall
 filled = record { up = refl; down = refl }
 
 -- The closing edge, from (0,1) to (1,0), adds -1 to each total: 26 looks at the sums with it.
 with-closing-edge : map (λ t. endCall (openWith 3 (at (pos 1) (pos 0)) (at (pos 0) (pos 1)) t) (sheetOf 0 (allTotals (pos 1_000_000_000_000_000_000))) .number) (eachAlone pos (allSizes 1) ++ eachAlone pos (allSizes 2)) ≡ replicate 6 0 ++ replicate 6 26
-unfolding over exceed outside unsoundWalk unsoundSheet endCall
+unfolding over exceed outside impossibleWalk impossibleSheet endCall
 with-closing-edge = refl
 
 -- 5: doubled, a second moment is 16 times as large: 10^18 is taken, and 10^18 + 16 is not. (A2, X6 and Y6 that 4 takes are never mapped so far.)
@@ -126,7 +126,7 @@ record Coordinates : Type 0 where
   last-walked : map (λ p. abandonCall (openWith 1 origin p zeros) .number) (inside ++ beyond) ≡ replicate 4 0 ++ replicate 4 28
 
 coordinates : Coordinates
-unfolding over exceed points outside anyOutside wrongLength listCall extended unsoundWalk pointCall abandonCall
+unfolding over exceed points outside anyOutside wrongLength listCall extended impossibleWalk pointCall abandonCall
 coordinates = record { point = refl; first-listed = refl; last-listed = refl; first-walked = refl; last-walked = refl }
 
 -- ---- counts
@@ -142,7 +142,7 @@ record Counts : Type 0 where
   outlines : map (λ n. endCall (openOf 3 zeros) (sheetOf n zeros) .number) (63 ∷ 64 ∷ 65 ∷ []) ≡ 0 ∷ 25 ∷ 28 ∷ []
 
 counts : Counts
-unfolding over exceed points outside anyOutside wrongLength listCall extended unsoundWalk unsoundSheet pointCall endCall
+unfolding over exceed points outside anyOutside wrongLength listCall extended impossibleWalk impossibleSheet pointCall endCall
 counts = record { listed = refl; points-walked = refl; points-ended = refl; outlines = refl }
 
 -- ---- maps

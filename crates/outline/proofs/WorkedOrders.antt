@@ -12,7 +12,7 @@ use Rattle.outline.specs.declared.Walk.{Walk}
 use Rattle.outline.specs.EdgeSums.{zeros, over, exceed}
 use Rattle.outline.specs.ListCall.{points, outside, anyOutside, wrongLength, listCall}
 use Rattle.outline.specs.MapCall.{disallowed, mapCall}
-use Rattle.outline.specs.WalkCalls.{origin, closed, newSheet, unsoundWalk, unsoundSheet, beginCall, pointCall, endCall, abandonCall}
+use Rattle.outline.specs.WalkCalls.{origin, closed, newSheet, impossibleWalk, impossibleSheet, beginCall, pointCall, endCall, abandonCall}
 use Rattle.outline.proofs.WorkedInputs.{at, area, openOf, sheetOf, doubling}
 
 -- A point that 1 refuses.
@@ -20,8 +20,8 @@ abbrev far : Position
 far = at (pos 2001) (pos 0)
 
 -- An open walk that 28 refuses.
-abbrev unsound : Walk
-unsound = openOf 1025 zeros
+abbrev impossible : Walk
+impossible = openOf 1025 zeros
 
 -- Walks marked closed that are full, and that have enough points and an area.
 abbrev closedFull : Walk
@@ -36,24 +36,24 @@ most = area 1_000_000_000_000_000_000
 
 -- Order 28, 22.
 record Begin : Type 0 where
-  unsound-22 : beginCall unsound .number ≡ 28
+  impossible-22 : beginCall impossible .number ≡ 28
   only-22 : beginCall (openOf 3 zeros) .number ≡ 22
 
 begin : Begin
-unfolding over exceed outside unsoundWalk beginCall
-begin = record { unsound-22 = refl; only-22 = refl }
+unfolding over exceed outside impossibleWalk beginCall
+begin = record { impossible-22 = refl; only-22 = refl }
 
 -- Order 28, 21, 1, 23.
 record Point : Type 0 where
-  unsound-1 : pointCall (openOf 3 (area 24_000_001)) far .number ≡ 28
-  unsound-23 : pointCall unsound origin .number ≡ 28
+  impossible-1 : pointCall (openOf 3 (area 24_000_001)) far .number ≡ 28
+  impossible-23 : pointCall impossible origin .number ≡ 28
   closed-1 : pointCall closed far .number ≡ 21
   closed-23 : pointCall closedFull origin .number ≡ 21
   far-23 : pointCall (openOf 1024 zeros) far .number ≡ 1
 
 point : Point
-unfolding over exceed outside unsoundWalk pointCall
-point = record { unsound-1 = refl; unsound-23 = refl; closed-1 = refl; closed-23 = refl; far-23 = refl }
+unfolding over exceed outside impossibleWalk pointCall
+point = record { impossible-1 = refl; impossible-23 = refl; closed-1 = refl; closed-23 = refl; far-23 = refl }
 
 -- Order 28, 21, 24, 25, 26.
 record End : Type 0 where
@@ -61,7 +61,7 @@ record End : Type 0 where
   sheet-21 : endCall closedArea (sheetOf 65 zeros) .number ≡ 28
   sheet-24 : endCall (openOf 2 zeros) (sheetOf 65 zeros) .number ≡ 28
   walk-24 : endCall (openOf 2 (area 16_000_001)) newSheet .number ≡ 28
-  walk-25 : endCall unsound (sheetOf 64 zeros) .number ≡ 28
+  walk-25 : endCall impossible (sheetOf 64 zeros) .number ≡ 28
   walk-26 : endCall (openOf 3 (area 24_000_001)) (sheetOf 0 most) .number ≡ 28
   sheet-26 : endCall (openOf 3 zeros) (sheetOf 0 (area 1_000_000_000_000_000_001)) .number ≡ 28
   -- 21
@@ -76,16 +76,16 @@ record End : Type 0 where
   only-26 : endCall (openOf 3 (area 1)) (sheetOf 63 most) .number ≡ 26
 
 end : End
-unfolding over exceed outside unsoundWalk unsoundSheet endCall
+unfolding over exceed outside impossibleWalk impossibleSheet endCall
 end = record { sheet-21 = refl; sheet-24 = refl; walk-24 = refl; walk-25 = refl; walk-26 = refl; sheet-26 = refl; closed-24 = refl; closed-25 = refl; closed-26 = refl; few-25 = refl; few-26 = refl; full-26 = refl; only-26 = refl }
 
 -- Order 28, 21.
 record Abandon : Type 0 where
-  only-28 : abandonCall unsound .number ≡ 28
+  only-28 : abandonCall impossible .number ≡ 28
   only-21 : abandonCall closedFull .number ≡ 21
 
 abandon : Abandon
-unfolding over exceed outside unsoundWalk abandonCall
+unfolding over exceed outside impossibleWalk abandonCall
 abandon = record { only-28 = refl; only-21 = refl }
 
 -- Order 2, 1: an odd length, too few points and too many, all of them beyond the limits.

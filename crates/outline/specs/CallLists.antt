@@ -10,7 +10,7 @@ use Rattle.outline.specs.declared.Totals.{Totals}
 use Rattle.outline.specs.declared.Walk.{Walk}
 use Rattle.outline.specs.declared.Sheet.{Sheet}
 use Rattle.outline.specs.EdgeSums.{openEdges, totalsOver}
-use Rattle.outline.specs.WalkCalls.{origin, beginCall, pointCall, endCall, abandonCall, unsoundSheet}
+use Rattle.outline.specs.WalkCalls.{origin, beginCall, pointCall, endCall, abandonCall, impossibleSheet}
 
 -- ---- calls on a walk
 
@@ -35,11 +35,11 @@ walkAfter w (end s) = endCall w s .walk
 walkAfter w abandon = abandonCall w .walk
 
 -- The call hands in a sheet that 28 refuses.
-unfoldable pub unsoundSheetIn : Call → Bool
-unsoundSheetIn begin = false
-unsoundSheetIn (point p) = false
-unsoundSheetIn (end s) = unsoundSheet s
-unsoundSheetIn abandon = false
+unfoldable pub impossibleSheetIn : Call → Bool
+impossibleSheetIn begin = false
+impossibleSheetIn (point p) = false
+impossibleSheetIn (end s) = impossibleSheet s
+impossibleSheetIn abandon = false
 
 -- What an accepted call does to the points taken since the walk was opened.
 unfoldable pub pointsWith : List Position → Call → List Position

@@ -11,7 +11,7 @@ use Rattle.outline.specs.declared.Sheet.{Sheet}
 use Rattle.outline.specs.EdgeSums.{plus, exceed}
 use Rattle.outline.specs.ListCall.{accepted, points, listCall}
 use Rattle.outline.specs.MapCall.{totalLimits}
-use Rattle.outline.specs.WalkCalls.{closed, sheetWith, unsoundSheet, EndOutcome, endCall}
+use Rattle.outline.specs.WalkCalls.{closed, sheetWith, impossibleSheet, EndOutcome, endCall}
 use Rattle.outline.specs.CallLists.{Call, begin, point, end, numberOf, walkAfter, after, from}
 
 -- The numbers that a list of calls answers, each call given the walk that the last one left.
@@ -21,7 +21,7 @@ answers w (c ∷ calls) = numberOf w c ∷ answers (walkAfter w c) calls
 
 -- A sheet that 28 takes, that has fewer than 64 outlines, and that stays within its limits with t added.
 pub record Room (s : Sheet) (t : Totals) : Type 0 where
-  pub sound : unsoundSheet s ≡ false
+  pub possible : impossibleSheet s ≡ false
   pub count : s .count < 64
   pub totals : exceed totalLimits (plus (s .totals) t) ≡ false
 

@@ -8,7 +8,7 @@ use Rattle.outline.specs.declared.Walk.{Walk}
 use Rattle.outline.specs.declared.Sheet.{Sheet}
 use Rattle.outline.specs.EdgeSums.{outlineTotals}
 use Rattle.outline.specs.Pieces.{sumOf}
-use Rattle.outline.specs.WalkCalls.{newSheet, unsoundSheet}
+use Rattle.outline.specs.WalkCalls.{newSheet, impossibleSheet}
 use Rattle.outline.specs.CallLists.{sheetAfter, addedBy, Walking, reached, outlinesOn}
 
 -- What is claimed of a sheet, ts being the totals of the outlines that it has accepted.
@@ -18,7 +18,7 @@ pub record HoldsSums (s : Sheet) (ts : List Totals) : Type 0 where
   -- the totals are their sums, each of the six by itself,
   pub totals : s .totals ≡ sumOf ts
   -- and 28 takes the sheet.
-  pub sound : unsoundSheet s ≡ false
+  pub possible : impossibleSheet s ≡ false
 
 abbrev pub SheetSums : Type 0
 SheetSums =

@@ -67,16 +67,16 @@ share n =
     }
 
 -- 28 of a walk, which looks at open walks only: the count is past 1,024; or there are points, and 1 refuses the first or the last; or a total is past its share.
-unfoldable pub unsoundWalk : Walk → Bool
-unsoundWalk w =
+unfoldable pub impossibleWalk : Walk → Bool
+impossibleWalk w =
     w .is_open
     && (ltb 1024 (w .count)
     || not (eqb (w .count) 0) && (outside (w .first) || outside (w .last))
     || exceed (share (w .count)) (w .totals))
 
 -- 28 of a sheet: its count is past 64, or a total is past its limit.
-unfoldable pub unsoundSheet : Sheet → Bool
-unsoundSheet s = ltb 64 (s .count) || exceed totalLimits (s .totals)
+unfoldable pub impossibleSheet : Sheet → Bool
+impossibleSheet s = ltb 64 (s .count) || exceed totalLimits (s .totals)
 
 -- ---- the four calls: number 0 where accepted, else the refusal's number; and what the call leaves
 
@@ -100,14 +100,14 @@ refusedEnd n w s = record { number = n; totals = zeros; walk = w; sheet = s }
 -- Order: 28, 22.
 unfoldable pub beginCall : Walk → WalkOutcome
 beginCall w =
-    cond (unsoundWalk w) (refusedWalk 28 w)
+    cond (impossibleWalk w) (refusedWalk 28 w)
     (cond (w .is_open) (refusedWalk 22 w)
     (record { number = 0; walk = opened }))
 
 -- Order: 28, 21, 1, 23.
 unfoldable pub pointCall : Walk → Position → WalkOutcome
 pointCall w p =
-    cond (unsoundWalk w) (refusedWalk 28 w)
+    cond (impossibleWalk w) (refusedWalk 28 w)
     (cond (not (w .is_open)) (refusedWalk 21 w)
     (cond (outside p) (refusedWalk 1 w)
     (cond (leb 1024 (w .count)) (refusedWalk 23 w)
@@ -116,7 +116,7 @@ pointCall w p =
 -- Order: 28, 21, 24, 25, 26.
 unfoldable pub endCall : Walk → Sheet → EndOutcome
 endCall w s =
-    cond (unsoundWalk w || unsoundSheet s) (refusedEnd 28 w s)
+    cond (impossibleWalk w || impossibleSheet s) (refusedEnd 28 w s)
     (cond (not (w .is_open)) (refusedEnd 21 w s)
     (cond (ltb (w .count) 3) (refusedEnd 24 w s)
     (cond (leb 64 (s .count)) (refusedEnd 25 w s)
@@ -126,6 +126,6 @@ endCall w s =
 -- Order: 28, 21.
 unfoldable pub abandonCall : Walk → WalkOutcome
 abandonCall w =
-    cond (unsoundWalk w) (refusedWalk 28 w)
+    cond (impossibleWalk w) (refusedWalk 28 w)
     (cond (not (w .is_open)) (refusedWalk 21 w)
     (record { number = 0; walk = closed }))

@@ -10,8 +10,8 @@ use Rattle.outline.specs.EdgeSums.{outlineTotals}
 use Rattle.outline.specs.ListCall.{accepted, numbers, anyOutside, listCall}
 use Rattle.outline.specs.MapCall.{moved, disallowed, mapCall}
 use Rattle.outline.specs.Pieces.{Cut, piecesOf, startAt, Direction, walked, placed, directed}
-use Rattle.outline.specs.WalkCalls.{unsoundWalk, endCall}
-use Rattle.outline.specs.CallLists.{Call, numberOf, unsoundSheetIn, Trace, walkOf, Walking, reached}
+use Rattle.outline.specs.WalkCalls.{impossibleWalk, endCall}
+use Rattle.outline.specs.CallLists.{Call, numberOf, impossibleSheetIn, Trace, walkOf, Walking, reached}
 use Rattle.outline.specs.PiecesAddUp.{AddUpMoved}
 
 -- ---- demand 2
@@ -19,15 +19,15 @@ use Rattle.outline.specs.PiecesAddUp.{AddUpMoved}
 -- What is claimed of a walk, and of the points of the accepted point calls since the last accepted begin.
 pub record IsOutline (r : Trace) : Type 0 where
   -- 28 takes the walk,
-  pub sound : unsoundWalk (r .walk) ≡ false
+  pub possible : impossibleWalk (r .walk) ≡ false
   -- so no call on it answers 28, but an end with a sheet that 28 refuses.
-  pub never-28 : (c : Call) → unsoundSheetIn c ≡ false → numberOf (r .walk) c ≢ 28
+  pub never-28 : (c : Call) → impossibleSheetIn c ≡ false → numberOf (r .walk) c ≢ 28
   -- While the walk is open, it is the walk of the points: their number, their ends and the sums over their edges so far.
   pub is-walk : r .walk .is_open ≡ true → r .walk ≡ walkOf (r .points)
   -- An accepted end answers the sums over all edges of the points, the closing edge among them,
   pub edge-sums : (s : Sheet) → endCall (r .walk) s .number ≡ 0 → endCall (r .walk) s .totals ≡ outlineTotals (r .points)
   -- which is what the list call answers for the points.
-  pub same : (s : Sheet) → endCall (r .walk) s .number ≡ 0 → listCall (numbers (r .points)) ≡ accepted (endCall (r .walk) s .totals)
+  pub list-call-agrees : (s : Sheet) → endCall (r .walk) s .number ≡ 0 → listCall (numbers (r .points)) ≡ accepted (endCall (r .walk) s .totals)
 
 abbrev pub WalkedOutline : Type 0
 WalkedOutline =

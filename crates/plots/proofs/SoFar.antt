@@ -1,4 +1,4 @@
--- What the program's loop has read and written so far: the steps of specs/LoopSteps are a run of text/Chunks, and each turn of the loop adds to them.
+-- What the program's loop has read and written so far: the steps of specs/LoopSteps are a run of text_program/Chunks, and each turn of the loop adds to them.
 use Prim.Native.Nat.{ℕ, _+_, _-_, _≤_}
 use mathlib.Core.Path.{_≡_, refl, sym, ap, subst, _∙_}
 use mathlib.Core.Bool.{Bool, true, false, true≢false}
@@ -11,17 +11,17 @@ use lib.Seq.{drop-drop, take-add, take-at, drop-at, length-take-le}
 use borrow.Rule.Slice.PartMut.{mid-len}
 use Rattle.outline.specs.declared.Sheet.{Sheet}
 use Rattle.outline.specs.WalkCalls.{newSheet}
-use Rattle.printing.specs.Put.{put}
-use Rattle.text.specs.declared.State.{State}
-use Rattle.text.specs.Stream.{start, feedCall}
-use Rattle.text.specs.Chunks.{Place, Run, here, reads, feeds}
-use Rattle.text.proofs.Chunks.{chunks}
+use Rattle.printing.specs.Buffer.{overwritten}
+use Rattle.text_program.specs.declared.State.{State}
+use Rattle.text_program.specs.Stream.{start, feedCall}
+use Rattle.text_program.specs.Chunks.{Place, Run, here, reads, feeds}
+use Rattle.text_program.proofs.Chunks.{chunks}
 use Rattle.stream.specs.declared.Fed.{Fed}
 use Rattle.stream.specs.Feeding.{Feeds}
 use Rattle.plots.specs.declared.Received.{Received}
 use Rattle.plots.specs.LoopSteps.{LoopSteps, none, called, received, AllWritten}
 
--- ---- steps are a run of text/Chunks
+-- ---- steps are a run of text_program/Chunks
 
 -- One run and then another.
 then : {p q : Place} {st : State} {s : Sheet} {buffer unread out more : List ℕ} → Run p st s buffer unread out → Run q (p .state) (p .sheet) (p .buffer) (p .unread) more → Run q st s buffer unread (out ++ more)
@@ -65,20 +65,20 @@ left buf at have used h l =
     ∙ ap (take n) (drop-drop used at buf)
 
 -- A call on the bytes from `at` up to `have`, and a write of what it put at the front of `after`, the output's buffer.
-pub after-write : (last : Bool) (st : State) (s : Sheet) (buf : List ℕ) (at have : ℕ) (before after : List ℕ) (r : Fed) (descriptor : ℤ) (text : List ℕ) (whole : Bool) → (let chunk = take (have - at) (drop at buf) in Feeds (feedCall last st s chunk (length before)) before after r → at + r .used ≤ have → have ≤ length buf → descriptor ≡ pos 1 → text ≡ take (r .put) after → whole ≡ true → SoFar last st s chunk → SoFar last (r .state) (r .sheet) (take (have - (at + r .used)) (drop (at + r .used) buf)))
-unfolding put
+pub after-write : (last : Bool) (st : State) (s : Sheet) (buf : List ℕ) (at have : ℕ) (before after : List ℕ) (r : Fed) (descriptor : ℤ) (text : List ℕ) (whole : Bool) → (let chunk = take (have - at) (drop at buf) in Feeds (feedCall last st s chunk (length before)) before after r → at + r .used ≤ have → have ≤ length buf → descriptor ≡ pos 1 → text ≡ take (r .filled) after → whole ≡ true → SoFar last st s chunk → SoFar last (r .state) (r .sheet) (take (have - (at + r .used)) (drop (at + r .used) buf)))
+unfolding overwritten
 after-write last st s buf at have before after r descriptor text whole f h l d t w k =
     let call = feedCall last st s (take (have - at) (drop at buf)) (length before) in
-    let size : r .put ≡ length (call .output) = ap (λ (r : Fed). r .put) (f .answer) in
-    let written : text ≡ call .output = t ∙ ap (take (r .put)) (f .buffer) ∙ take-at (call .output) (drop (0 + length (call .output)) before) (r .put) (sym size) in
+    let size : r .filled ≡ length (call .output) = ap (λ (r : Fed). r .filled) (f .answer) in
+    let written : text ≡ call .output = t ∙ ap (take (r .filled)) (f .buffer) ∙ take-at (call .output) (drop (0 + length (call .output)) before) (r .filled) (sym size) in
     let used : r .used ≡ call .used = ap (λ (r : Fed). r .used) (f .answer) in
     subst (λ (r : Fed). SoFar last (r .state) (r .sheet) (take (have - (at + r .used)) (drop (at + r .used) buf))) (sym (f .answer))
     (subst (SoFar last (call .state) (call .sheet)) (left buf at have (call .used) (omega arith) l)
     (record { input = k .input; out = k .out ++ text; steps = called (length before) call descriptor text whole refl d written w (k .steps) }))
 
 -- The bytes from `from` up to `to` are moved to the front, and a read adds to them.
-pub after-read : (st : State) (s : Sheet) (buf moved after : List ℕ) (from to n : ℕ) (r : Received) → (let bytes = take (to - from) (drop from buf) in to ≤ length buf → n ≡ to - from → moved ≡ put buf 0 bytes → take n after ≡ take n moved → n + r .size ≤ length after → r .failed ≡ false → SoFar false st s bytes → SoFar (eqb (r .size) 0) st s (take (n + r .size - 0) (drop 0 after)))
-unfolding put
+pub after-read : (st : State) (s : Sheet) (buf moved after : List ℕ) (from to n : ℕ) (r : Received) → (let bytes = take (to - from) (drop from buf) in to ≤ length buf → n ≡ to - from → moved ≡ overwritten buf 0 bytes → take n after ≡ take n moved → n + r .size ≤ length after → r .failed ≡ false → SoFar false st s bytes → SoFar (eqb (r .size) 0) st s (take (n + r .size - 0) (drop 0 after)))
+unfolding overwritten
 after-read st s buf moved after from to n r l e m t h f k =
     let bytes = take (to - from) (drop from buf) in
     let piece = take (r .size) (drop n after) in

@@ -6,7 +6,7 @@ use mathlib.Core.List.{List, [], _∷_}
 use lib.IntN.{ℤ, pos}
 use lib.ListN.{length, replicate}
 use Rattle.outline.specs.declared.Sheet.{Sheet}
-use Rattle.text.specs.declared.State.{State}
+use Rattle.text_program.specs.declared.State.{State}
 use Rattle.plots.specs.LoopSteps.{LoopSteps, none, called, received}
 
 -- Where each write went, and what `write_all` answered.

@@ -10,14 +10,14 @@ use lib.ListN.{length, drop, length-drop}
 use borrow.Author.Tests.{eqb-true, eqb-false}
 use Rattle.outline.specs.declared.Sheet.{Sheet}
 use Rattle.outline.specs.WalkCalls.{newSheet}
-use Rattle.printing.specs.Put.{lineRoom}
+use Rattle.printing.specs.Buffer.{lineRoom}
 use Rattle.printing.proofs.Cases.{by-cond}
-use Rattle.text.specs.declared.State.{State}
-use Rattle.text.specs.Stream.{Step, start, feedCall}
-use Rattle.text.proofs.Progress.{linesAhead, feed-onward}
-use Rattle.text.proofs.CallEnds.{Waiting, Complete, feed-used, feed-complete}
-use Rattle.text.proofs.BytesRead.{feed-counted}
-use Rattle.text.proofs.Room.{Fits, feed-room}
+use Rattle.text_program.specs.declared.State.{State}
+use Rattle.text_program.specs.Stream.{Step, start, feedCall}
+use Rattle.text_program.proofs.Progress.{linesAhead, feed-onward}
+use Rattle.text_program.proofs.CallEnds.{Waiting, Complete, feed-used, feed-complete}
+use Rattle.text_program.proofs.BytesRead.{feed-counted}
+use Rattle.text_program.proofs.Room.{Fits, feed-room}
 use Rattle.stream.specs.declared.Fed.{Fed}
 
 -- How many bytes may still be read where `size` are in the buffer: with byte 33,000,001, or a byte after it that is read with it, reading ends.
@@ -29,13 +29,13 @@ abbrev pub toDo : State → ℕ → Bool → ℕ
 toDo st size last = 2 * unread st size + size + linesAhead st + cond last 0 1
 
 -- Numbers that the loop keeps.
-pub record Sound (st : State) (s : Sheet) : Type 0 where
+pub record Possible (st : State) (s : Sheet) : Type 0 where
   pub fits : Fits st s
   pub within : st .ended ≡ false → st .bytes + st .held ≤ 33_000_000
 
 -- At the start all is zero.
-pub start-sound : Sound start newSheet
-start-sound = record { fits = record { lines = omega arith; sheet = record { count = omega arith; totals = record { a2 = omega arith; x6 = omega arith; y6 = omega arith; xx12 = omega arith; xy24 = omega arith; yy12 = omega arith } } }; within = λ e. omega arith }
+pub start-possible : Possible start newSheet
+start-possible = record { fits = record { lines = omega arith; sheet = record { count = omega arith; totals = record { a2 = omega arith; x6 = omega arith; y6 = omega arith; xx12 = omega arith; xy24 = omega arith; yy12 = omega arith } } }; within = λ e. omega arith }
 
 -- Only reading helps: `have` bytes are left, and less is left to do when n are read, or the end of the input is found.
 pub record BeforeRead (last : Bool) (st : State) (size : ℕ) (after : State) (have : ℕ) : Type 0 where
@@ -46,13 +46,13 @@ pub record BeforeRead (last : Bool) (st : State) (size : ℕ) (after : State) (h
 -- After a call on `size` bytes, with room for `room`, that answers r.
 pub record AfterCall (last : Bool) (st : State) (size room : ℕ) (r : Fed) : Type 0 where
   pub taken : r .used ≤ size
-  pub written : r .put ≤ room
-  pub sound : Sound (r .state) (r .sheet)
+  pub written : r .filled ≤ room
+  pub possible : Possible (r .state) (r .sheet)
   -- The room is short: the call has written, so less is left to do.
-  pub full : room - r .put < lineRoom → toDo (r .state) (size - r .used) last < toDo st size last
-  pub reads : lineRoom ≤ room - r .put → r .state .written ≡ false → BeforeRead last st size (r .state) (size - r .used)
+  pub full : room - r .filled < lineRoom → toDo (r .state) (size - r .used) last < toDo st size last
+  pub reads : lineRoom ≤ room - r .filled → r .state .written ≡ false → BeforeRead last st size (r .state) (size - r .used)
 
-module _ (last : Bool) (st : State) (s : Sheet) (chunk : List ℕ) (room : ℕ) (h : lineRoom ≤ room) (k : Sound st s) where
+module _ (last : Bool) (st : State) (s : Sheet) (chunk : List ℕ) (room : ℕ) (h : lineRoom ≤ room) (k : Possible st s) where
   abbrev call : Step
   call = feedCall last st s chunk room
 
@@ -63,8 +63,8 @@ module _ (last : Bool) (st : State) (s : Sheet) (chunk : List ℕ) (room : ℕ) 
   onward : rest + linesAhead (call .state) + min 1 (length (call .output)) ≤ length chunk + linesAhead st
   onward = omega (arith, length-drop (call .used) chunk, feed-onward last st s chunk room)
 
-  still-sound : Sound (call .state) (call .sheet)
-  still-sound = record { fits = feed-room last st s chunk room (k .fits) .1; within = λ e. let c = feed-counted last st s chunk room e in c .within (k .within (c .reads)) }
+  still-possible : Possible (call .state) (call .sheet)
+  still-possible = record { fits = feed-room last st s chunk room (k .fits) .1; within = λ e. let c = feed-counted last st s chunk room e in c .within (k .within (c .reads)) }
 
   -- Where reading goes on, every byte that was read is counted.
   counted : call .state .ended ≡ false → call .state .bytes + call .state .held + rest ≡ st .bytes + st .held + length chunk
@@ -85,7 +85,7 @@ module _ (last : Bool) (st : State) (s : Sheet) (chunk : List ℕ) (room : ℕ) 
         go (inr w) = w
 
     near : call .state .bytes + call .state .held + rest ≤ 33_000_000
-    near = omega (arith, length-drop (call .used) chunk, also (length (drop (call .used) chunk)) (waiting .near) (still-sound .within (waiting .reading .reads)))
+    near = omega (arith, length-drop (call .used) chunk, also (length (drop (call .used) chunk)) (waiting .near) (still-possible .within (waiting .reading .reads)))
       where
         also : {b : ℕ} (n : ℕ) → (0 < n → b + n ≤ 33_000_000) → b ≤ 33_000_000 → b + n ≤ 33_000_000
         also zero some none = omega arith
@@ -100,13 +100,13 @@ module _ (last : Bool) (st : State) (s : Sheet) (chunk : List ℕ) (room : ℕ) 
         (λ z. omega (arith, onward, counted e, unread-before e, near, eqb-true n 0 z))
         (λ z. omega (arith, onward, counted e, unread-before e, near, eqb-false n 0 z))
 
-  pub after-call : (r : Fed) → r ≡ record { state = call .state; sheet = call .sheet; used = call .used; put = length (call .output) } → AfterCall last st (length chunk) room r
+  pub after-call : (r : Fed) → r ≡ record { state = call .state; sheet = call .sheet; used = call .used; filled = length (call .output) } → AfterCall last st (length chunk) room r
   after-call r e =
       subst (AfterCall last st (length chunk) room) (sym e)
       (record {
         taken = feed-used last st s chunk room;
         written = feed-room last st s chunk room (k .fits) .0;
-        sound = still-sound;
+        possible = still-possible;
         full = λ l. omega (arith, onward, no-more-unread);
         reads = λ l on. record { not-last = waiting l on .needs .not-final; few = omega (arith, length-drop (call .used) chunk, waiting l on .needs .short); less = less-after-read l on };
       })

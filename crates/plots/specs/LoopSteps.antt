@@ -9,9 +9,9 @@ use lib.IntN.{ℤ, pos}
 use lib.ListN.{length, drop}
 use Rattle.outline.specs.declared.Sheet.{Sheet}
 use Rattle.outline.specs.WalkCalls.{newSheet}
-use Rattle.text.specs.declared.State.{State}
-use Rattle.text.specs.Program.{program}
-use Rattle.text.specs.Stream.{Step, start, feedCall}
+use Rattle.text_program.specs.declared.State.{State}
+use Rattle.text_program.specs.Program.{program}
+use Rattle.text_program.specs.Stream.{Step, start, feedCall}
 
 -- The steps that lead to a state, a sheet and a buffer of bytes not taken yet, where `input` was read and `out` was written. `last`: the input has ended.
 pub data LoopSteps : Bool → State → Sheet → List ℕ → List ℕ → List ℕ → Type 0 where

@@ -6,13 +6,13 @@ ghost use lib.IntN.{pos};
 ghost use lib.ListN.{length, take, drop};
 ghost use lib.Signed.{ltZ};
 ghost use Rattle.io.specs.Counts.{clamped};
-ghost use Rattle.printing.specs.Put.{put};
+ghost use Rattle.printing.specs.Buffer.{overwritten};
 
 // Brings the bytes from `from` up to `to` to the front; answers how many they are.
 fn shift(buf: &mut [u8], from: usize, to: usize) -> usize
     requires { ⌜ (from ≤ to) × (to ≤ length (now buf)) ⌝ }
     ensures { λ r. ⌜ r ≡ to - from ⌝ }
-    ensures { λ r. ⌜ now (buf .exit) ≡ put (now (buf .entry)) 0 (take (to - from) (drop from (now (buf .entry)))) ⌝ }
+    ensures { λ r. ⌜ now (buf .exit) ≡ overwritten (now (buf .entry)) 0 (take (to - from) (drop from (now (buf .entry)))) ⌝ }
 {
     let n = to - from;
     let mut i = 0;
@@ -68,14 +68,14 @@ fn run(buf: &mut [u8], out: &mut [u8])
     requires { ⌜ 65536 ≡ length (now out) ⌝ }
 {
     let mut state = stream::start();
-    let mut sheet = begin_abandon::new_sheet();
+    let mut sheet = walk_state::new_sheet();
     let mut at: usize = 0;
     let mut have: usize = 0;
     let mut last = false;
     loop {
         let f = stream::feed(state, sheet, &buf[at..have], last, out);
-        let put = f.put;
-        if !io::write_all(1, &out[..put]) {
+        let filled = f.filled;
+        if !io::write_all(1, &out[..filled]) {
             report_unwritten();
             return;
         }
@@ -87,7 +87,7 @@ fn run(buf: &mut [u8], out: &mut [u8])
         if s.written {
             return;
         }
-        if out.len() - put < 192 {
+        if out.len() - filled < 192 {
             continue;
         }
         have = shift(buf, at, have);

@@ -9,7 +9,7 @@ use lib.Dec.{ltb}
 use borrow.Author.Tests.{lt-ltb, le-ltb, ltb-false}
 use Rattle.printing.specs.Output.{digits, decimal}
 use Rattle.printing.specs.Digits.{lastDigits}
-use Rattle.printing.specs.Put.{Written}
+use Rattle.printing.specs.Buffer.{Written}
 use Rattle.printing.proofs.Cases.{both-cond}
 use Rattle.printing.proofs.PutLaws.{then, next-fits}
 

@@ -19,7 +19,7 @@ use Rattle.outline.specs.MapCall.{totalLimits}
 use Rattle.outline.proofs.Limits.{exceed-fit}
 use Rattle.centroid.specs.Centroid.{CentroidOutcome, isCentre, firstCentre, centre, centred, signedBy, outlineCentroidCall}
 use Rattle.printing.specs.Output.{digits, decimal, signed, field, totalsText, centreText, outlineLine, refusalLine, sheetLine}
-use Rattle.printing.specs.Put.{lineRoom}
+use Rattle.printing.specs.Buffer.{lineRoom}
 use Rattle.printing.proofs.Cases.{by-cond}
 
 -- ---- numbers

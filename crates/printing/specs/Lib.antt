@@ -1,3 +1,3 @@
 pub mod Output
-pub mod Put
+pub mod Buffer
 pub mod Digits

@@ -3,7 +3,7 @@ ghost use Prim.Native.Nat.{_+_, _<_, _≤_};
 ghost use lib.ListN.{length};
 ghost use Rattle.printing.specs.Output.{decimal};
 ghost use Rattle.printing.specs.Digits.{lastDigits};
-ghost use Rattle.printing.specs.Put.{Written};
+ghost use Rattle.printing.specs.Buffer.{Written};
 use crate::put_byte;
 
 // ---- all digits of a piece, with zeros at its front

@@ -9,7 +9,7 @@ ghost use lib.IntN.{pos, natAbs};
 ghost use lib.ListN.{length};
 ghost use Rattle.centroid.specs.Centroid.{outlineCentroidCall};
 ghost use Rattle.printing.specs.Output.{signed, field, totalsText, centreText, figuresText, outlineLine, refusalLine, sheetLine};
-ghost use Rattle.printing.specs.Put.{lineRoom, fitting, Written};
+ghost use Rattle.printing.specs.Buffer.{lineRoom, fitting, Written};
 use centroid::CentroidAnswer;
 use digits::put_decimal;
 use outline::Sheet;

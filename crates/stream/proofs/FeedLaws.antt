@@ -8,17 +8,17 @@ use lib.Dec.{ltb}
 use lib.ListN.{length, drop, length-append, length-drop}
 use lib.Seq.{drop-drop}
 use Rattle.outline.specs.declared.Sheet.{Sheet}
-use Rattle.printing.specs.Put.{lineRoom, put, Written}
+use Rattle.printing.specs.Buffer.{lineRoom, overwritten, Written}
 use Rattle.printing.proofs.Cases.{by-cond}
 use Rattle.printing.proofs.PutLaws.{then}
-use Rattle.text.specs.declared.State.{State}
-use Rattle.text.specs.Stream.{Step, halted, followed, step, steps, feedCall}
-use Rattle.text.proofs.Progress.{workLeft, StepProgress, stays, less, step-progress, feed-steps}
-use Rattle.text.proofs.CallEnds.{step-used}
+use Rattle.text_program.specs.declared.State.{State}
+use Rattle.text_program.specs.Stream.{Step, halted, followed, step, steps, feedCall}
+use Rattle.text_program.proofs.Progress.{workLeft, StepProgress, stays, less, step-progress, feed-steps}
+use Rattle.text_program.proofs.CallEnds.{step-used}
 use Rattle.stream.proofs.Places.{nothing-written}
 use Rattle.stream.specs.Feeding.{stepWithRoom}
 
--- A step after which `text` is written and `used` bytes are taken, and then q.
+-- A step after which `text_program` is written and `used` bytes are taken, and then q.
 abbrev pub after : List ℕ → ℕ → Step → Step
 after text used q = record { output = text ++ q .output; used = used + q .used; state = q .state; sheet = q .sheet; more = q .more }
 
@@ -54,7 +54,7 @@ module _ (final : Bool) (st : State) (s : Sheet) (chunk : List ℕ) (room : ℕ)
 
 -- ---- a call so far
 
--- `text` is written and `at` bytes are taken; the whole call is that and what is still to do, if anything is.
+-- `text_program` is written and `at` bytes are taken; the whole call is that and what is still to do, if anything is.
 pub record SoFar (final : Bool) (st₀ : State) (s₀ : Sheet) (chunk before after-it : List ℕ) (st : State) (s : Sheet) (at to : ℕ) (more : Bool) : Type 0 where
   pub text : List ℕ
   pub place : at ≤ length chunk
@@ -77,8 +77,8 @@ none-yet final st s chunk out =
     }
 
 -- A text that is as long as what it replaces ends in the buffer.
-ends-within : (o x : List ℕ) → length (put o 0 x) ≡ length o → length x ≤ length o
-unfolding put
+ends-within : (o x : List ℕ) → length (overwritten o 0 x) ≡ length o → length x ≤ length o
+unfolding overwritten
 ends-within o x e = omega (arith, simp length-append at e)
 
 after-after : (x y : List ℕ) (m n : ℕ) (q : Step) → after x m (after y n q) ≡ after (x ++ y) (m + n) q

@@ -10,13 +10,13 @@ use borrow.Author.Tests.{lt-leb, lt-ltb, le-ltb, ltb-true, ltb-false}
 use Rattle.outline.specs.declared.Sheet.{Sheet}
 use Rattle.outline.specs.declared.Walk.{Walk}
 use Rattle.outline.specs.WalkCalls.{endCall}
-use Rattle.forms.specs.Grammar.{Form, begin, end, abandon, point, other, formOf}
-use Rattle.forms.specs.ReadForm.{lineLength}
-use Rattle.text.specs.declared.State.{State}
-use Rattle.text.specs.Program.{told, carriedEnd, carryOut}
-use Rattle.text.specs.Stream.{carriedStep, ending, part, whole, heldBytes, lineStep}
-use Rattle.text.proofs.Forms.{zeros-line}
-use Rattle.text.proofs.Lines.{lineSize}
+use Rattle.parsing.specs.Grammar.{Form, begin, end, abandon, point, other, formOf}
+use Rattle.parsing.specs.ReadForm.{lineLength}
+use Rattle.text_program.specs.declared.State.{State}
+use Rattle.text_program.specs.Program.{told, carriedEnd, carryOut}
+use Rattle.text_program.specs.Stream.{carriedStep, ending, part, whole, heldBytes, lineStep}
+use Rattle.text_program.proofs.Forms.{zeros-line}
+use Rattle.text_program.proofs.Lines.{lineSize}
 use Rattle.stream.specs.declared.Stepped.{Stepped}
 use Rattle.lines.specs.declared.Asked.{Asked}
 use Rattle.lines.specs.LineOutcomes.{asked, askedAt}
@@ -143,4 +143,4 @@ pub passes-over : (st : State) (s : Sheet) (chunk : List ℕ) {at to stop : ℕ}
 passes-over st s chunk {at} {to} {stop} e h =
     let q = ending st s chunk in
     let place : stop + 0 ≡ at + length chunk = omega arith in
-    record { answer = h .answer ∙ ap (λ i. record { state = q .state; sheet = s; at = i; put = to + length (q .output); more = true }) place; buffer = h .buffer }
+    record { answer = h .answer ∙ ap (λ i. record { state = q .state; sheet = s; at = i; filled = to + length (q .output); more = true }) place; buffer = h .buffer }

@@ -8,11 +8,11 @@ use lib.Dec.{leb}
 use lib.ListN.{length}
 use borrow.Author.Tests.{le-ltb}
 use Rattle.outline.specs.declared.Sheet.{Sheet}
-use Rattle.printing.specs.Put.{lineRoom, put, fitting, Written}
+use Rattle.printing.specs.Buffer.{lineRoom, overwritten, fitting, Written}
 use Rattle.printing.proofs.PutLaws.{put-nothing}
 use Rattle.printing.proofs.Cases.{by-cond}
-use Rattle.text.specs.declared.State.{State}
-use Rattle.text.specs.Stream.{Step, halted, part}
+use Rattle.text_program.specs.declared.State.{State}
+use Rattle.text_program.specs.Stream.{Step, halted, part}
 use Rattle.stream.specs.declared.Stepped.{Stepped}
 use Rattle.stream.specs.Feeding.{stepped, Steps}
 
@@ -23,16 +23,16 @@ written {o} {p} {x} {at} {a} h w = subst (λ l. Written o at l p a) (rw (le-ltb 
 
 -- The answer of a step, put together.
 module _ (q : Step) {at i to j : ℕ} {before after : List ℕ} (took : i ≡ at + q .used) (w : Written before to (q .output) after j) where
-  pub steps-to : Steps q at before to after (record { state = q .state; sheet = q .sheet; at = i; put = j; more = q .more })
-  steps-to = record { answer = ap₂ (λ i j. record { state = q .state; sheet = q .sheet; at = i; put = j; more = q .more }) took (w .end); buffer = w .buffer }
+  pub steps-to : Steps q at before to after (record { state = q .state; sheet = q .sheet; at = i; filled = j; more = q .more })
+  steps-to = record { answer = ap₂ (λ i j. record { state = q .state; sheet = q .sheet; at = i; filled = j; more = q .more }) took (w .end); buffer = w .buffer }
 
 -- Nothing is written.
 pub nothing-written : (o : List ℕ) (to : ℕ) → Written o to [] o to
 nothing-written o to = record { buffer = sym (put-nothing o to); end = omega arith }
 
 -- A step that takes nothing of the chunk and writes nothing leaves both places.
-pub same-places : (st : State) (s : Sheet) (at to : ℕ) (more : Bool) → record { state = st; sheet = s; at = at; put = to; more = more } ≡ stepped (record { output = []; used = 0; state = st; sheet = s; more = more }) at to
-same-places st s at to more = let a : at ≡ at + 0 = omega arith in let b : to ≡ to + 0 = omega arith in ap₂ (λ i j. record { state = st; sheet = s; at = i; put = j; more = more }) a b
+pub same-places : (st : State) (s : Sheet) (at to : ℕ) (more : Bool) → record { state = st; sheet = s; at = at; filled = to; more = more } ≡ stepped (record { output = []; used = 0; state = st; sheet = s; more = more }) at to
+same-places st s at to more = let a : at ≡ at + 0 = omega arith in let b : to ≡ to + 0 = omega arith in ap₂ (λ i j. record { state = st; sheet = s; at = i; filled = j; more = more }) a b
 
 -- A step is what it is equal to.
 pub same-step : {q p : Step} {at to : ℕ} {before after : List ℕ} {r : Stepped} → q ≡ p → Steps p at before to after r → Steps q at before to after r

@@ -8,9 +8,9 @@ use lib.ListN.{length}
 use borrow.Author.Tests.{le-leb}
 use Rattle.integers.proofs.Flags.{both-failed}
 use Rattle.outline.specs.declared.Sheet.{Sheet}
-use Rattle.printing.specs.Put.{lineRoom}
-use Rattle.text.specs.declared.State.{State}
-use Rattle.text.specs.Stream.{Step, halted, closing, ending, lineStep, step}
+use Rattle.printing.specs.Buffer.{lineRoom}
+use Rattle.text_program.specs.declared.State.{State}
+use Rattle.text_program.specs.Stream.{Step, halted, closing, ending, lineStep, step}
 use Rattle.stream.specs.Feeding.{stepWithRoom}
 
 module _ (final : Bool) (st : State) (s : Sheet) (chunk : List ℕ) (room : ℕ) where

@@ -3,19 +3,19 @@ mod line;
 mod step;
 
 ghost use mathlib.Core.Path.{_≡_};
-ghost use Rattle.text.specs.Stream.{start as startState, feedCall};
+ghost use Rattle.text_program.specs.Stream.{start as startState, feedCall};
 ghost use lib.ListN.{length};
 ghost use Rattle.stream.specs.Feeding.{Feeds};
 use outline::Sheet;
 use step::step;
-use text::State;
+use text_program::State;
 
 // What a call leaves: how many bytes of the chunk it has taken, and how many it has written.
 pub struct Fed {
     pub state: State,
     pub sheet: Sheet,
     pub used: usize,
-    pub put: usize,
+    pub filled: usize,
 }
 
 // What a step leaves: the places that it has come to in the chunk and in the output, and whether another may follow.
@@ -23,7 +23,7 @@ pub struct Stepped {
     pub state: State,
     pub sheet: Sheet,
     pub at: usize,
-    pub put: usize,
+    pub filled: usize,
     pub more: bool,
 }
 
@@ -31,7 +31,7 @@ pub struct Stepped {
 pub fn start() -> State
     ensures { λ r. ⌜ r ≡ startState ⌝ }
 {
-    let walk = begin_abandon::new_walk();
+    let walk = walk_state::new_walk();
     State {
         lines: 0,
         bytes: 0,
@@ -49,22 +49,22 @@ pub fn feed(state: State, sheet: Sheet, chunk: &[u8], last: bool, out: &mut [u8]
     let mut s = state;
     let mut sh = sheet;
     let mut at = 0;
-    let mut put = 0;
+    let mut filled = 0;
     let mut more = true;
     while more {
-        let r = step(s, sh, chunk, at, last, out, put);
+        let r = step(s, sh, chunk, at, last, out, filled);
         let state_after = r.state;
         let sheet_after = r.sheet;
         s = state_after;
         sh = sheet_after;
         at = r.at;
-        put = r.put;
+        filled = r.filled;
         more = r.more;
     }
     Fed {
         state: s,
         sheet: sh,
         used: at,
-        put,
+        filled,
     }
 }

@@ -5,9 +5,9 @@ ghost use Prim.Native.Nat.{_+_, _≤_, _<_, min};
 ghost use lib.Dec.{ltb};
 ghost use lib.ListN.{length, drop};
 ghost use Rattle.outline.specs.WalkCalls.{endCall};
-ghost use Rattle.printing.specs.Put.{lineRoom};
-ghost use Rattle.text.specs.Program.{told, carriedEnd};
-ghost use Rattle.text.specs.Stream.{afterLine, carriedStep, part, lineStep};
+ghost use Rattle.printing.specs.Buffer.{lineRoom};
+ghost use Rattle.text_program.specs.Program.{told, carriedEnd};
+ghost use Rattle.text_program.specs.Stream.{afterLine, carriedStep, part, lineStep};
 ghost use Rattle.stream.specs.Feeding.{stepped, Steps, Counts};
 use crate::Stepped;
 use crate::step::end_reading;
@@ -17,7 +17,7 @@ use lines::end_line;
 use lines::tell;
 use outline::Sheet;
 use outline::Walk;
-use text::State;
+use text_program::State;
 
 // Byte 33,000,001 is reached.
 fn past_limit(state: State, size: usize) -> bool
@@ -40,13 +40,13 @@ fn least(a: usize, b: usize) -> usize
 }
 
 // Part of a line, of which `size` bytes are here: left where it may yet have a form, else only its size is kept.
-fn part_of_line(state: State, sheet: Sheet, at: usize, size: usize, put: usize) -> Stepped
+fn part_of_line(state: State, sheet: Sheet, at: usize, size: usize, filled: usize) -> Stepped
     requires { ⌜ Counts state at size ⌝ }
-    ensures { λ r. ⌜ r ≡ stepped (part state sheet size) at «put» ⌝ }
+    ensures { λ r. ⌜ r ≡ stepped (part state sheet size) at filled ⌝ }
 {
     let held = state.held + size as u32;
     if held <= 32 {
-        return halt(state, sheet, at, put);
+        return halt(state, sheet, at, filled);
     }
     let walk = state.walk;
     let longer = State {
@@ -61,7 +61,7 @@ fn part_of_line(state: State, sheet: Sheet, at: usize, size: usize, put: usize) 
         state: longer,
         sheet,
         at: at + size,
-        put,
+        filled,
         more: false,
     }
 }
@@ -89,19 +89,19 @@ fn told_line(
     at: usize,
     size: usize,
     out: &mut [u8],
-    put: usize,
+    filled: usize,
 ) -> Stepped
     requires { ⌜ Counts state at size ⌝ }
-    requires { ⌜ «put» + lineRoom ≤ length (now out) ⌝ }
-    ensures { λ r. ⌜ Steps (carriedStep state (record { output = told (state .lines + 1) number; walk = walk; sheet = sheet }) size) at (now (out .entry)) «put» (now (out .exit)) r ⌝ }
+    requires { ⌜ filled + lineRoom ≤ length (now out) ⌝ }
+    ensures { λ r. ⌜ Steps (carriedStep state (record { output = told (state .lines + 1) number; walk = walk; sheet = sheet }) size) at (now (out .entry)) filled (now (out .exit)) r ⌝ }
 {
-    let p = tell(number, state.lines as u64 + 1, out, put);
+    let p = tell(number, state.lines as u64 + 1, out, filled);
     let s = after_line(state, walk, size);
     Stepped {
         state: s,
         sheet,
         at: at + size,
-        put: p,
+        filled: p,
         more: true,
     }
 }
@@ -113,13 +113,13 @@ fn ended_line(
     at: usize,
     size: usize,
     out: &mut [u8],
-    put: usize,
+    filled: usize,
 ) -> Stepped
     requires { ⌜ Counts state at size ⌝ }
-    requires { ⌜ «put» + lineRoom ≤ length (now out) ⌝ }
-    ensures { λ r. ⌜ Steps (carriedStep state (carriedEnd (state .lines + 1) (walk .count) (endCall walk sheet)) size) at (now (out .entry)) «put» (now (out .exit)) r ⌝ }
+    requires { ⌜ filled + lineRoom ≤ length (now out) ⌝ }
+    ensures { λ r. ⌜ Steps (carriedStep state (carriedEnd (state .lines + 1) (walk .count) (endCall walk sheet)) size) at (now (out .entry)) filled (now (out .exit)) r ⌝ }
 {
-    let e = end_line(walk, sheet, state.lines as u64 + 1, out, put);
+    let e = end_line(walk, sheet, state.lines as u64 + 1, out, filled);
     let walk_after = e.walk;
     let sheet_after = e.sheet;
     let s = after_line(state, walk_after, size);
@@ -127,7 +127,7 @@ fn ended_line(
         state: s,
         sheet: sheet_after,
         at: at + size,
-        put: e.put,
+        filled: e.filled,
         more: true,
     }
 }
@@ -149,12 +149,12 @@ pub(crate) fn line_step(
     at: usize,
     last: bool,
     out: &mut [u8],
-    put: usize,
+    filled: usize,
 ) -> Stepped
     requires { ⌜ state .lines < 1_000_000 ⌝ }
     requires { ⌜ at ≤ length (now chunk) ⌝ }
-    requires { ⌜ «put» + lineRoom ≤ length (now out) ⌝ }
-    ensures { λ r. ⌜ Steps (lineStep last state sheet (drop at (now (chunk .entry)))) at (now (out .entry)) «put» (now (out .exit)) r ⌝ }
+    requires { ⌜ filled + lineRoom ≤ length (now out) ⌝ }
+    ensures { λ r. ⌜ Steps (lineStep last state sheet (drop at (now (chunk .entry)))) at (now (out .entry)) filled (now (out .exit)) r ⌝ }
 {
     let w = state.walk;
     let a = ask(w, chunk, at);
@@ -162,16 +162,16 @@ pub(crate) fn line_step(
     let left = chunk.len() - at;
     let size = least(a.size, left);
     if past_limit(state, size) {
-        return end_reading(state, sheet, chunk.len(), out, put);
+        return end_reading(state, sheet, chunk.len(), out, filled);
     }
     if unended(a.size, left, last) {
-        return part_of_line(state, sheet, at, size, put);
+        return part_of_line(state, sheet, at, size, filled);
     }
     if 0 < state.held {
-        return told_line(state, w, 9, sheet, at, size, out, put);
+        return told_line(state, w, 9, sheet, at, size, out, filled);
     }
     if a.is_end {
-        return ended_line(state, walk, sheet, at, size, out, put);
+        return ended_line(state, walk, sheet, at, size, out, filled);
     }
-    told_line(state, walk, a.number, sheet, at, size, out, put)
+    told_line(state, walk, a.number, sheet, at, size, out, filled)
 }

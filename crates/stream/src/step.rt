@@ -5,35 +5,35 @@ ghost use mathlib.Core.List.{[]};
 ghost use Prim.Native.Nat.{_+_, _-_, _≤_};
 ghost use lib.Dec.{eqb};
 ghost use lib.ListN.{length, drop};
-ghost use Rattle.printing.specs.Put.{lineRoom};
-ghost use Rattle.text.specs.Stream.{halted, closing, ending};
+ghost use Rattle.printing.specs.Buffer.{lineRoom};
+ghost use Rattle.text_program.specs.Stream.{halted, closing, ending};
 ghost use Rattle.stream.specs.Feeding.{stepped, Steps, stepWithRoom};
 use crate::Stepped;
 use crate::line::line_step;
 use outline::Sheet;
 use printing::put_refusal;
 use printing::put_sheet;
-use text::State;
+use text_program::State;
 
 // Nothing more can be done with this chunk and this room.
-pub(crate) fn halt(state: State, sheet: Sheet, at: usize, put: usize) -> Stepped
-    ensures { λ r. ⌜ r ≡ stepped (halted state sheet) at «put» ⌝ }
+pub(crate) fn halt(state: State, sheet: Sheet, at: usize, filled: usize) -> Stepped
+    ensures { λ r. ⌜ r ≡ stepped (halted state sheet) at filled ⌝ }
 {
     Stepped {
         state,
         sheet,
         at,
-        put,
+        filled,
         more: false,
     }
 }
 
 // The S line. Called at one place, so that the state of the loop over the lines can stay in registers.
-fn close(state: State, sheet: Sheet, at: usize, out: &mut [u8], put: usize) -> Stepped
-    requires { ⌜ «put» + lineRoom ≤ length (now out) ⌝ }
-    ensures { λ r. ⌜ Steps (closing state sheet) at (now (out .entry)) «put» (now (out .exit)) r ⌝ }
+fn close(state: State, sheet: Sheet, at: usize, out: &mut [u8], filled: usize) -> Stepped
+    requires { ⌜ filled + lineRoom ≤ length (now out) ⌝ }
+    ensures { λ r. ⌜ Steps (closing state sheet) at (now (out .entry)) filled (now (out .exit)) r ⌝ }
 {
-    let p = put_sheet(out, put, sheet);
+    let p = put_sheet(out, filled, sheet);
     let walk = state.walk;
     let closed = State {
         lines: state.lines,
@@ -47,7 +47,7 @@ fn close(state: State, sheet: Sheet, at: usize, out: &mut [u8], put: usize) -> S
         state: closed,
         sheet,
         at,
-        put: p,
+        filled: p,
         more: false,
     }
 }
@@ -58,12 +58,12 @@ pub(crate) fn end_reading(
     sheet: Sheet,
     end: usize,
     out: &mut [u8],
-    put: usize,
+    filled: usize,
 ) -> Stepped
-    requires { ⌜ «put» + lineRoom ≤ length (now out) ⌝ }
-    ensures { λ r. ⌜ Steps (ending state sheet []) «end» (now (out .entry)) «put» (now (out .exit)) r ⌝ }
+    requires { ⌜ filled + lineRoom ≤ length (now out) ⌝ }
+    ensures { λ r. ⌜ Steps (ending state sheet []) «end» (now (out .entry)) filled (now (out .exit)) r ⌝ }
 {
-    let p = put_refusal(out, put, state.lines as u64 + 1, 10);
+    let p = put_refusal(out, filled, state.lines as u64 + 1, 10);
     let walk = state.walk;
     let ended = State {
         lines: state.lines,
@@ -77,7 +77,7 @@ pub(crate) fn end_reading(
         state: ended,
         sheet,
         at: end,
-        put: p,
+        filled: p,
         more: true,
     }
 }
@@ -115,27 +115,27 @@ pub(crate) fn step(
     at: usize,
     last: bool,
     out: &mut [u8],
-    put: usize,
+    filled: usize,
 ) -> Stepped
     requires { ⌜ at ≤ length (now chunk) ⌝ }
-    requires { ⌜ «put» ≤ length (now out) ⌝ }
-    ensures { λ r. ⌜ Steps (stepWithRoom last state sheet (drop at (now (chunk .entry))) (length (now (out .entry)) - «put»)) at (now (out .entry)) «put» (now (out .exit)) r ⌝ }
+    requires { ⌜ filled ≤ length (now out) ⌝ }
+    ensures { λ r. ⌜ Steps (stepWithRoom last state sheet (drop at (now (chunk .entry))) (length (now (out .entry)) - filled)) at (now (out .entry)) filled (now (out .exit)) r ⌝ }
 {
     if state.written {
-        return halt(state, sheet, at, put);
+        return halt(state, sheet, at, filled);
     }
-    if out.len() - put < 192 {
-        return halt(state, sheet, at, put);
+    if out.len() - filled < 192 {
+        return halt(state, sheet, at, filled);
     }
     let left = chunk.len() - at;
     if at_end(state, last, left) {
-        return close(state, sheet, at, out, put);
+        return close(state, sheet, at, out, filled);
     }
     if waits(last, left) {
-        return halt(state, sheet, at, put);
+        return halt(state, sheet, at, filled);
     }
     if 1_000_000 <= state.lines {
-        return end_reading(state, sheet, chunk.len(), out, put);
+        return end_reading(state, sheet, chunk.len(), out, filled);
     }
-    line_step(state, sheet, chunk, at, last, out, put)
+    line_step(state, sheet, chunk, at, last, out, filled)
 }

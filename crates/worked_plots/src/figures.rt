@@ -2,17 +2,17 @@
 ghost use mathlib.Core.Path.{_≡_};
 ghost use Rattle.outline.specs.EdgeSums.{zeros};
 ghost use Rattle.cells.specs.RegionCall.{reading as regionReading, refused as Region·refused};
-ghost use Rattle.survey.specs.ListAnswer.{reading as listReading};
-ghost use Rattle.survey.specs.WalkAnswers.{pointNumber, endNumber, endTotals};
+ghost use Rattle.outline_calls.specs.ListAnswer.{reading as listReading};
+ghost use Rattle.outline_calls.specs.WalkAnswers.{pointNumber, endNumber, endTotals};
 ghost use Rattle.affine.specs.Answer.{reading as mapReading};
 ghost use Rattle.worked_plots.specs.Plots.{regionOutcome};
 use affine::MapAnswer;
 use cells::RegionAnswer;
 use centroid::CellSums;
 use outline::Totals;
-use survey::EndAnswer;
-use survey::OutlineAnswer;
-use survey::PointAnswer;
+use outline_calls::EndAnswer;
+use outline_calls::OutlineAnswer;
+use outline_calls::PointAnswer;
 
 pub(crate) struct RegionFigures {
     pub(crate) number: u64,
@@ -80,7 +80,7 @@ pub(crate) fn point_number(answer: PointAnswer) -> u64
 {
     match answer {
         PointAnswer::Accepted => 0,
-        PointAnswer::Unsound => 28,
+        PointAnswer::Impossible => 28,
         PointAnswer::NotOpen => 21,
         PointAnswer::OutsideLimits => 1,
         PointAnswer::Full => 23,
@@ -92,7 +92,7 @@ pub(crate) fn end_number(answer: EndAnswer) -> u64
 {
     match answer {
         EndAnswer::Accepted(_) => 0,
-        EndAnswer::Unsound => 28,
+        EndAnswer::Impossible => 28,
         EndAnswer::NotOpen => 21,
         EndAnswer::TooFewPoints => 24,
         EndAnswer::SheetFull => 25,
@@ -105,7 +105,7 @@ pub(crate) fn end_totals(answer: EndAnswer) -> Totals
 {
     match answer {
         EndAnswer::Accepted(totals) => totals,
-        EndAnswer::Unsound => no_totals(),
+        EndAnswer::Impossible => no_totals(),
         EndAnswer::NotOpen => no_totals(),
         EndAnswer::TooFewPoints => no_totals(),
         EndAnswer::SheetFull => no_totals(),

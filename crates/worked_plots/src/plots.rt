@@ -6,8 +6,8 @@ ghost use lib.ListN.{take};
 ghost use Rattle.outline.specs.ListCall.{listCall, points};
 ghost use Rattle.outline.specs.MapCall.{mapCall};
 ghost use Rattle.outline.specs.WalkCalls.{closed, newSheet, pointCall, endCall};
-ghost use Rattle.survey.specs.ListAnswer.{reading as listReading};
-ghost use Rattle.survey.specs.WalkAnswers.{pointReading, endReading};
+ghost use Rattle.outline_calls.specs.ListAnswer.{reading as listReading};
+ghost use Rattle.outline_calls.specs.WalkAnswers.{pointReading, endReading};
 ghost use Rattle.affine.specs.Answer.{reading as mapReading};
 ghost use Rattle.cells.specs.RegionCall.{Answers};
 ghost use Rattle.worked_plots.specs.Plots.{roundSquare, doubling, afterPoints, square, walkedSquare, endAfter, triangle, runOf, handedIn};
@@ -19,9 +19,9 @@ use outline::AffineMap;
 use outline::Position;
 use outline::Totals;
 use outline::Walk;
-use survey::EndReply;
-use survey::OutlineAnswer;
-use survey::PointReply;
+use outline_calls::EndReply;
+use outline_calls::OutlineAnswer;
+use outline_calls::PointReply;
 
 // The corners of a square, x and y in turn, anticlockwise.
 const SQUARE: [i32; 8] = [2000, -2000, 2000, 2000, -2000, 2000, -2000, -2000];
@@ -42,7 +42,7 @@ pub(crate) fn triangle_totals(x: i32) -> OutlineAnswer
     ensures { λ r. ⌜ listReading r ≡ listCall (triangle x) ⌝ }
 {
     let numbers = [x, 0, 0, 2000, -2000, 0];
-    survey::outline_totals(&numbers)
+    outline_calls::outline_totals(&numbers)
 }
 
 // The numbers of 256 rounds of the square.
@@ -65,7 +65,7 @@ pub(crate) fn doubled_square(rounds: usize) -> MapAnswer
 {
     let numbers = square_numbers();
     let n = rounds * 8;
-    let totals = list_totals(survey::outline_totals(&numbers[..n]));
+    let totals = list_totals(outline_calls::outline_totals(&numbers[..n]));
     affine::map_totals(DOUBLING, totals)
 }
 
@@ -73,10 +73,10 @@ pub(crate) fn doubled_square(rounds: usize) -> MapAnswer
 fn walk_round(w: Walk) -> Walk
     ensures { λ r. ⌜ r ≡ afterPoints w (points square) ⌝ }
 {
-    let one = survey::point(w, SQUARE[0], SQUARE[1]);
-    let two = survey::point(one.walk, SQUARE[2], SQUARE[3]);
-    let three = survey::point(two.walk, SQUARE[4], SQUARE[5]);
-    let four = survey::point(three.walk, SQUARE[6], SQUARE[7]);
+    let one = outline_calls::point(w, SQUARE[0], SQUARE[1]);
+    let two = outline_calls::point(one.walk, SQUARE[2], SQUARE[3]);
+    let three = outline_calls::point(two.walk, SQUARE[4], SQUARE[5]);
+    let four = outline_calls::point(three.walk, SQUARE[6], SQUARE[7]);
     four.walk
 }
 
@@ -84,7 +84,7 @@ fn walk_round(w: Walk) -> Walk
 fn walk_square(w: Walk) -> Walk
     ensures { λ r. ⌜ r ≡ walkedSquare w ⌝ }
 {
-    let begun = begin_abandon::begin(w);
+    let begun = walk_state::begin(w);
     let mut walk = begun.walk;
     let mut rounds: u32 = 0;
     while rounds < 256 {
@@ -98,22 +98,22 @@ fn walk_square(w: Walk) -> Walk
 pub(crate) fn point_1025(p: Position) -> PointReply
     ensures { λ r. ⌜ pointReading r ≡ pointCall (walkedSquare closed) p ⌝ }
 {
-    let w = walk_square(begin_abandon::new_walk());
-    survey::point(w, p.x, p.y)
+    let w = walk_square(walk_state::new_walk());
+    outline_calls::point(w, p.x, p.y)
 }
 
 // An outline of 256 rounds on a sheet that has `earlier` such outlines.
 pub(crate) fn sheet_of_squares(earlier: u32) -> EndReply
     ensures { λ r. ⌜ endReading r ≡ endAfter earlier ⌝ }
 {
-    let mut reply = survey::end(
-        walk_square(begin_abandon::new_walk()),
-        begin_abandon::new_sheet(),
+    let mut reply = outline_calls::end(
+        walk_square(walk_state::new_walk()),
+        walk_state::new_sheet(),
     );
     let mut done = 0;
     while done < earlier {
         let w = walk_square(reply.walk);
-        reply = survey::end(w, reply.sheet);
+        reply = outline_calls::end(w, reply.sheet);
         done += 1;
     }
     reply
@@ -153,5 +153,5 @@ pub(crate) fn handed_in(count: u32, a2: i64) -> EndReply
         last,
         totals,
     };
-    survey::end(walk, begin_abandon::new_sheet())
+    outline_calls::end(walk, walk_state::new_sheet())
 }

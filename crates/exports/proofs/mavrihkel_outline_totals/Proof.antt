@@ -1,6 +1,6 @@
 -- `exports::mavrihkel_outline_totals` meets its contract, by the cases of the answer.
 use borrow.Author.Needs.{needs}
-use Rattle.survey.specs.ListAnswer.{reading}
+use Rattle.outline_calls.specs.ListAnswer.{reading}
 use Rattle.exports.specs.Reply.{totalsReply}
 use Rattle.exports.proofs.ReplyLaws.{by-case}
 use Rattle.exports.proofs.mavrihkel_outline_totals.Statement.{statement}

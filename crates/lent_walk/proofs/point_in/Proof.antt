@@ -44,17 +44,17 @@ use Rattle.outline.specs.declared.Walk.{Walk}
 use Rattle.outline.specs.WalkCalls.{pointCall}
 use Rattle.outline.proofs.Walk as T
 use Rattle.outline.proofs.Walk.Laws as T′
-use Rattle.survey.specs.WalkAnswers.{pointReading}
-use Rattle.survey.specs.declared.walk.PointReply.{PointReply}
-use Rattle.survey.specs.declared.walk.PointAnswer.{PointAnswer}
-use Rattle.survey.proofs.walk.PointReply as S
-use Rattle.survey.proofs.walk.PointReply.Laws as S′
-use Rattle.survey.proofs.walk.PointAnswer as R
-use Rattle.survey.proofs.walk.PointAnswer.Laws as R′
-use Rattle.survey.proofs.point as point
-use Rattle.survey.proofs.point.Symbol as point-def
-use Rattle.survey.proofs.point.Symbol.{name as #survey·point}
-use Rattle.survey.proofs.point.Met as point-thm
+use Rattle.outline_calls.specs.WalkAnswers.{pointReading}
+use Rattle.outline_calls.specs.declared.walk.PointReply.{PointReply}
+use Rattle.outline_calls.specs.declared.walk.PointAnswer.{PointAnswer}
+use Rattle.outline_calls.proofs.walk.PointReply as S
+use Rattle.outline_calls.proofs.walk.PointReply.Laws as S′
+use Rattle.outline_calls.proofs.walk.PointAnswer as R
+use Rattle.outline_calls.proofs.walk.PointAnswer.Laws as R′
+use Rattle.outline_calls.proofs.point as point
+use Rattle.outline_calls.proofs.point.Symbol as point-def
+use Rattle.outline_calls.proofs.point.Symbol.{name as #outline-calls·point}
+use Rattle.outline_calls.proofs.point.Met as point-thm
 use Rattle.lent_walk.proofs.point_in.Key.{name as #lent-walk·point-in}
 use Rattle.lent_walk.proofs.point_in as point-in
 use Rattle.lent_walk.proofs.point_in.Statement as stated
@@ -113,7 +113,7 @@ module _ {M : Type 1} (𝓤 : URA M) (H : Heap 𝓤) (A : Atoms 𝓤) (W : Given
       frame ! $ feqI ! (List Val) (vptr b o ∷ []) (vptr b o ∷ []) refl $ fjoin3 ! $ nothing ! $ nothing ! $ fjoin ! $ nothing ! $ fjoin ! $ move ! (1 ∷ 0 ∷ []) $ fjoin ! $
       owned ! R.the-row (Is R.the-row) (EL.makes R.the-type R′.the-plain 𝓤 H A) (r .answer) _ is $ move ! (1 ∷ 0 ∷ []) $ done !
 
-  module _ (C : Calls 𝓤 H) (Λ : Loops 𝓤 H) (fm : FmC 𝓤 H (W .laws) C) (known : Triple 𝓤 (C #survey·point) (PointCall 𝓤 H A at-mem run)) where
+  module _ (C : Calls 𝓤 H) (Λ : Loops 𝓤 H) (fm : FmC 𝓤 H (W .laws) C) (known : Triple 𝓤 (C #outline-calls·point) (PointCall 𝓤 H A at-mem run)) where
     walk : ent 𝓤 (onEntry 𝓤 H A point-in.signature (κ, tt) (q, tt) x at) (WpFn 𝓤 H C Λ code.function (vptr b o ∷ vint w32 (ofZ w32 zx) ∷ vint w32 (ofZ w32 zy) ∷ []) Post)
     walk =
         qed W ((‵ (flft κ q) ⊛ ‵ ftrue) ∷ ‵ (owns (MutRef (named 0) κ T.the-row ∷ i32 ∷ i32 ∷ []) x at) ∷ []) ∵ enter ! C Λ code.function (vptr b o ∷ vint w32 (ofZ w32 zx) ∷ vint w32 (ofZ w32 zy) ∷ []) _ $
@@ -142,14 +142,14 @@ module _ {M : Type 1} (𝓤 : URA M) (H : Heap 𝓤) (A : Atoms 𝓤) (W : Given
         keep ! (0 ∷ 1 ∷ 2 ∷ []) $ by ! (exits r (LL.owed S.the-type S′.the-laws r _ is .0) e)))))))))))))
 
 module _ {M : Type 1} (𝓤 : URA M) (H : Heap 𝓤) (A : Atoms 𝓤) (W : Given 𝓤 H A) (mem : Memory → SProp 𝓤) (run : Routine → Fun 𝓤) where
-  point-in-walks : (C : Calls 𝓤 H) (Λ : Loops 𝓤 H) → FmC 𝓤 H (W .laws) C → Triple 𝓤 (C #survey·point) (PointCall 𝓤 H A mem run) → Walks 𝓤 H A point-in.ended stayed (WpFn 𝓤 H C Λ code.function) (point-in.clauses 𝓤 H A mem run)
+  point-in-walks : (C : Calls 𝓤 H) (Λ : Loops 𝓤 H) → FmC 𝓤 H (W .laws) C → Triple 𝓤 (C #outline-calls·point) (PointCall 𝓤 H A mem run) → Walks 𝓤 H A point-in.ended stayed (WpFn 𝓤 H C Λ code.function) (point-in.clauses 𝓤 H A mem run)
   point-in-walks C Λ fm known = walked 𝓤 H A point-in.ended stayed (point-in.clauses 𝓤 H A mem run) (WpFn 𝓤 H C Λ code.function) (λ κs. (ptr-vals, (sint-vals w32, (sint-vals w32, tt)))) (λ κs. (mut-tells (named 0) (κs .0) T.the-row, (sint-tells w32, (sint-tells w32, tt))))
       (λ κs qs bounds a g are. via 𝓤 _ (fst∗ 𝓤 _ (emp 𝓤)) (walk 𝓤 H A W mem run (κs .0) (qs .0) (a .0 .ptr .0) (a .0 .ptr .1) (a .0 .name) (a .0 .now) (a .1 .0) (a .1 .1 .0) (are .1 .0) (are .1 .1 .0) C Λ fm known))
 
   goes : AllGo 𝓤 H A W 1 (point-in.signature .params) (point-in.ended .kept) stayed
   goes = (goes-ref 𝓤 H A W 1 0 tt (plain (λ _. T.the-row)), (goes-dropped 𝓤 H A W 1 (plain (λ _. i32)) yes (λ κs x f. refl), (goes-dropped 𝓤 H A W 1 (plain (λ _. i32)) yes (λ κs x f. refl), tt)))
 
-point-in-meets : {M : Type 1} (𝓤 : URA M) (H : Heap 𝓤) (A : Atoms 𝓤) → Given 𝓤 H A → (mem : Memory → SProp 𝓤) (run : Routine → Fun 𝓤) (𝓣 : Tables 𝓤 H) → Triple 𝓤 (𝓣 .C #survey·point) (PointCall 𝓤 H A mem run)
+point-in-meets : {M : Type 1} (𝓤 : URA M) (H : Heap 𝓤) (A : Atoms 𝓤) → Given 𝓤 H A → (mem : Memory → SProp 𝓤) (run : Routine → Fun 𝓤) (𝓣 : Tables 𝓤 H) → Triple 𝓤 (𝓣 .C #outline-calls·point) (PointCall 𝓤 H A mem run)
     → Meets 𝓤 H A point-in.signature (WpFn 𝓤 H (𝓣 .C) (𝓣 .Λ) code.function) (point-in.spec 𝓤 H A mem run)
 point-in-meets 𝓤 H A W mem run 𝓣 known = walk-meets 𝓤 H A point-in.ended stayed W (goes 𝓤 H A W mem run) (point-in.clauses 𝓤 H A mem run) (WpFn 𝓤 H (𝓣 .C) (𝓣 .Λ) code.function) (WpFn-mono 𝓤 H (W .laws) 𝓣 code.function)
     (point-in-walks 𝓤 H A W mem run (𝓣 .C) (𝓣 .Λ) (fmOf 𝓤 H (W .laws) 𝓣) known)
@@ -160,4 +160,4 @@ point-in-spec 𝓤 H 𝓜 𝓖 𝓡 =
     entered 𝓤 H (tripleOf 𝓤 H (𝓖 .A) point-in.signature (point-in.spec 𝓤 H (𝓖 .A) (𝓜 .mem) (𝓡 .run)))
     (tables 𝓤 H 𝓜 𝓡 code.env .C) (tables 𝓤 H 𝓜 𝓡 code.env .Λ) #lent-walk·point-in code.function (code.unfolded 𝓤 H 𝓜 𝓡)
     (point-in-meets 𝓤 H (𝓖 .A) (givenOf 𝓤 H 𝓜 𝓖) (𝓜 .mem) (𝓡 .run) (tablesOf 𝓤 H 𝓜 (tables 𝓤 H 𝓜 𝓡 code.env))
-    (cited 𝓤 H (PointCall 𝓤 H (𝓖 .A) (𝓜 .mem) (𝓡 .run)) 𝓜 𝓡 code.env #survey·point point-def.routine code.calls-survey·point (point-thm.met 𝓤 H 𝓜 𝓖 𝓡)))
+    (cited 𝓤 H (PointCall 𝓤 H (𝓖 .A) (𝓜 .mem) (𝓡 .run)) 𝓜 𝓡 code.env #outline-calls·point point-def.routine code.calls-outline-calls·point (point-thm.met 𝓤 H 𝓜 𝓖 𝓡)))

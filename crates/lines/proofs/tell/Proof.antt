@@ -7,7 +7,7 @@ use lib.Dec.{ltb}
 use lib.ListN.{length}
 use borrow.Author.Needs.{needs}
 use borrow.Author.Tests.{eq-eqb, ne-eqb}
-use Rattle.printing.specs.Put.{lineRoom, fitting, Written}
+use Rattle.printing.specs.Buffer.{lineRoom, fitting, Written}
 use Rattle.printing.proofs.Cases.{by-cond}
 use Rattle.printing.proofs.PutLaws.{put-nothing}
 use Rattle.lines.proofs.tell.Statement.{statement}

@@ -11,10 +11,10 @@ use borrow.Author.Needs.{needs}
 use borrow.Author.Tests.{not-false}
 use borrow.Rule.Slice.PartMut.{mid-len}
 use Rattle.outline.specs.declared.Sheet.{Sheet}
-use Rattle.text.specs.declared.State.{State}
-use Rattle.text.specs.Program.{program}
+use Rattle.text_program.specs.declared.State.{State}
+use Rattle.text_program.specs.Program.{program}
 use Rattle.plots.proofs.Arguments.{given-to}
-use Rattle.plots.proofs.Turns.{toDo, Sound, start-sound, BeforeRead, AfterCall, after-call}
+use Rattle.plots.proofs.Turns.{toDo, Possible, start-possible, BeforeRead, AfterCall, after-call}
 use Rattle.plots.proofs.SoFar.{SoFar, at-start, all-written, after-write, after-read}
 use Rattle.plots.proofs.run.Statement.{statement}
 use Rattle.plots.proofs.run.Tie as tie
@@ -26,7 +26,7 @@ record Kept (buf₀ out₀ buf out : List ℕ) (state : State) (sheet : Sheet) (
   inside : have ≤ length buf
   buf-size : length buf ≡ length buf₀
   out-size : length out ≡ length out₀
-  sound : Sound state sheet
+  possible : Possible state sheet
 
 abbrev Inv-loop : tie.InvT-loop
 Inv-loop buf₀ out₀ state₀ sheet₀ at₀ have₀ last₀ buf out state sheet at have last = Kept buf₀ out₀ buf out state sheet at have last
@@ -72,10 +72,10 @@ after-feed c =
     let l = loop-of c .loop in
     let chunk = take (l .have - l .at) (drop (l .at) (l .buf)) in
     subst (λ n. AfterCall (l .last) (l .state) n (length (l .out)) (c .feed .result)) (mid-len (l .at) (l .have) (l .buf) (l .inv .inside))
-    (after-call (l .last) (l .state) (l .sheet) chunk (length (l .out)) (omega (arith, sizes (loop-of c) .1)) (l .inv .sound) (c .feed .result) (c .feed .ensures .answer))
+    (after-call (l .last) (l .state) (l .sheet) chunk (length (l .out)) (omega (arith, sizes (loop-of c) .1)) (l .inv .possible) (c .feed .result) (c .feed .ensures .answer))
 
 -- `write_all` is given standard output, and what the call has put at the front of the output's buffer.
-given : (c : tie.After-write-all Inv-loop μ-loop) → (let f = feed-of-write c .feed in let g = given-to (c .write-all) in (g .0 ≡ pos 1) × (g .1 .0 .now ≡ take (f .result .put) (f .last .1 .1 .1 .1 .0)))
+given : (c : tie.After-write-all Inv-loop μ-loop) → (let f = feed-of-write c .feed in let g = given-to (c .write-all) in (g .0 ≡ pos 1) × (g .1 .0 .now ≡ take (f .result .filled) (f .last .1 .1 .1 .1 .0)))
 given c = (refl, refl)
 
 -- The call and the write are steps: `write_all` has answered true.
@@ -125,7 +125,7 @@ loop-holds c =
       inside = omega arith;
       buf-size = refl;
       out-size = refl;
-      sound = rw (c .before .start .ensures, c .new-sheet .ensures) start-sound;
+      possible = rw (c .before .start .ensures, c .new-sheet .ensures) start-possible;
     }
 
 sub-feed : tie.Need-sub-feed Inv-loop μ-loop
@@ -146,7 +146,7 @@ slice-reshare-prefix-write-all c = omega (arith, after-feed (c .before .before) 
 slice-aggregate-write-all : tie.Need-slice-aggregate-write-all Inv-loop μ-loop
 slice-aggregate-write-all c =
     let f = c .before .before .before in
-    sym (length-take-le (f .feed .result .put) (f .feed .last .1 .1 .1 .1 .0) (omega (arith, after-feed f .written, room f)))
+    sym (length-take-le (f .feed .result .filled) (f .feed .last .1 .1 .1 .1 .0) (omega (arith, after-feed f .written, room f)))
 
 write-all-requires : tie.Need-write-all-requires Inv-loop μ-loop
 write-all-requires c κs = search needs
@@ -200,7 +200,7 @@ loop-again c =
       inside = l .inv .inside;
       buf-size = l .inv .buf-size;
       out-size = room f ∙ l .inv .out-size;
-      sound = after-feed f .sound;
+      possible = after-feed f .possible;
     }
 
 shift-requires : tie.Need-shift-requires Inv-loop μ-loop
@@ -256,7 +256,7 @@ loop-again-2 c =
       inside = omega (arith, i .0, i .1);
       buf-size = m .kept .0 ∙ k .shift .kept .0 ∙ l .inv .buf-size;
       out-size = room f ∙ l .inv .out-size;
-      sound = after-feed f .sound;
+      possible = after-feed f .possible;
     }
 
 pub run-spec : {M : Type 1} → statement M

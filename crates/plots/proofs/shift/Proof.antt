@@ -7,7 +7,7 @@ use native.Mathlib.Numerals.{add-one}
 use lib.ListN.{length, take, drop, getD, set, length-drop}
 use lib.Seq.{paste, paste-zero, paste-suc, drop-paste, getD-drop, length-take-le}
 use borrow.Author.Needs.{needs}
-use Rattle.printing.specs.Put.{put}
+use Rattle.printing.specs.Buffer.{overwritten}
 use Rattle.plots.proofs.shift.Statement.{statement}
 use Rattle.plots.proofs.shift.Tie as tie
 
@@ -37,8 +37,8 @@ module _ (before : List ℕ) (from i : ℕ) (h : from + i < length before) where
       ∙ ap (paste before 0 (drop from before)) (sym (add-one i))
 
 -- All that was to be moved.
-all-moved : (before : List ℕ) (from to i : ℕ) → from ≤ to → to ≤ length before → i ≤ to - from → to - from ≤ i → paste before 0 (drop from before) i ≡ put before 0 (take (to - from) (drop from before))
-unfolding put
+all-moved : (before : List ℕ) (from to i : ℕ) → from ≤ to → to ≤ length before → i ≤ to - from → to - from ≤ i → paste before 0 (drop from before) i ≡ overwritten before 0 (take (to - from) (drop from before))
+unfolding overwritten
 all-moved before from to i h k l m =
     let e : i ≡ to - from = omega arith in
     ap (paste before 0 (drop from before)) e ∙ ap (λ n. take 0 before ++ take (to - from) (drop from before) ++ drop (0 + n) before) (sym (length-take-le (to - from) (drop from before) (omega (arith, length-drop from before))))

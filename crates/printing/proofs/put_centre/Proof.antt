@@ -18,7 +18,7 @@ use Rattle.centroid.specs.declared.CentroidAnswer.the-variants.{At, OutsideLimi
 use Rattle.centroid.specs.Centroid.{outlineCentroidCall}
 use Rattle.centroid.specs.Answers.{reading}
 use Rattle.printing.specs.Output.{field, centreText}
-use Rattle.printing.specs.Put.{Written}
+use Rattle.printing.specs.Buffer.{Written}
 use Rattle.printing.proofs.PutLaws.{then, next-fits}
 use Rattle.printing.proofs.put_centre.Statement.{statement}
 use Rattle.printing.proofs.put_centre.Tie as tie

@@ -5,7 +5,7 @@ use native.Mathlib.Omega.{arith}
 use lib.ListN.{length, length-append}
 use Rattle.centroid.specs.Centroid.{outlineCentroidCall}
 use Rattle.printing.specs.Output.{totalsText, centreText}
-use Rattle.printing.specs.Put.{Written}
+use Rattle.printing.specs.Buffer.{Written}
 use Rattle.printing.proofs.PutLaws.{then, next-fits, same-size}
 use Rattle.printing.proofs.put_figures.Statement.{statement}
 use Rattle.printing.proofs.put_figures.Tie as tie

@@ -8,7 +8,7 @@ use lib.ListN.{length, length-append}
 use Rattle.outline.specs.EdgeSums.{Fit}
 use Rattle.printing.specs.Output.{field, figuresText, outlineLine}
 use Rattle.printing.proofs.LineLengths.{wide, fit-wide, outline-length}
-use Rattle.printing.specs.Put.{Written}
+use Rattle.printing.specs.Buffer.{Written}
 use Rattle.printing.proofs.PutLaws.{then, next-fits, same-size, not-written, line-written, has-room}
 use Rattle.printing.proofs.put_outline.Statement.{statement}
 use Rattle.printing.proofs.put_outline.Tie as tie

@@ -7,7 +7,7 @@ use lib.IntN.{pos}
 use lib.ListN.{length, length-append}
 use Rattle.printing.specs.Output.{field, refusalLine}
 use Rattle.printing.proofs.LineLengths.{refusal-length}
-use Rattle.printing.specs.Put.{Written}
+use Rattle.printing.specs.Buffer.{Written}
 use Rattle.printing.proofs.PutLaws.{then, next-fits, same-size, not-written, line-written, has-room}
 use Rattle.printing.proofs.put_refusal.Statement.{statement}
 use Rattle.printing.proofs.put_refusal.Tie as tie

@@ -10,7 +10,7 @@ use mir.Val.{Fits}
 use Rattle.outline.specs.EdgeSums.{Fit}
 use Rattle.printing.specs.Output.{field, figuresText, sheetLine}
 use Rattle.printing.proofs.LineLengths.{wide, fit-wide, sheet-length}
-use Rattle.printing.specs.Put.{Written}
+use Rattle.printing.specs.Buffer.{Written}
 use Rattle.printing.proofs.PutLaws.{then, next-fits, same-size, not-written, line-written, has-room}
 use Rattle.printing.proofs.put_sheet.Statement.{statement}
 use Rattle.printing.proofs.put_sheet.Tie as tie

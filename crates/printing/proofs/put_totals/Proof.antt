@@ -9,7 +9,7 @@ use lib.ListN.{length, length-append}
 use mir.Syntax.{w64}
 use mir.Val.{toZ, ofZ}
 use Rattle.printing.specs.Output.{field, totalsText}
-use Rattle.printing.specs.Put.{Written}
+use Rattle.printing.specs.Buffer.{Written}
 use Rattle.printing.proofs.PutLaws.{then, next-fits, same-size}
 use Rattle.printing.proofs.put_totals.Statement.{statement}
 use Rattle.printing.proofs.put_totals.Tie as tie

@@ -3,7 +3,7 @@ use Prim.Native.Nat.{_+_}
 use mathlib.Core.Path.{sym}
 use native.Mathlib.Omega.{arith}
 use borrow.Author.Tests.{lt-ltb}
-use Rattle.printing.specs.Put.{lineRoom}
+use Rattle.printing.specs.Buffer.{lineRoom}
 use Rattle.printing.proofs.Cases.{difference-test}
 use Rattle.printing.proofs.too_short.Statement.{statement}
 use Rattle.printing.proofs.too_short.Tie as tie

@@ -1,6 +1,6 @@
 -- `abandon_walk` answers each answer of the call by its number.
 use borrow.Author.Needs.{needs}
-use Rattle.begin_abandon.specs.Answers.{abandonNumber}
+use Rattle.walk_state.specs.Answers.{abandonNumber}
 use Rattle.lines.proofs.Answers.{answered-by-number}
 use Rattle.lines.proofs.calls.abandon_walk.Statement.{statement}
 use Rattle.lines.proofs.calls.abandon_walk.Tie as tie

@@ -1,6 +1,6 @@
 -- `begin_walk` answers each answer of the call by its number.
 use borrow.Author.Needs.{needs}
-use Rattle.begin_abandon.specs.Answers.{beginNumber}
+use Rattle.walk_state.specs.Answers.{beginNumber}
 use Rattle.lines.proofs.Answers.{answered-by-number}
 use Rattle.lines.proofs.calls.begin_walk.Statement.{statement}
 use Rattle.lines.proofs.calls.begin_walk.Tie as tie

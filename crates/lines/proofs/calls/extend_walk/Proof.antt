@@ -4,7 +4,7 @@ use borrow.Author.Needs.{needs}
 use lib.IntN.{ℤ}
 use mir.Facts.{toZ-ofZ}
 use Rattle.outline.specs.WalkCalls.{pointCall}
-use Rattle.survey.specs.WalkAnswers.{pointNumber, pointReading}
+use Rattle.outline_calls.specs.WalkAnswers.{pointNumber, pointReading}
 use Rattle.lines.proofs.Answers.{answered-by-number}
 use Rattle.lines.proofs.calls.extend_walk.Statement.{statement}
 use Rattle.lines.proofs.calls.extend_walk.Tie as tie

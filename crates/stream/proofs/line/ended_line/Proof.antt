@@ -2,8 +2,8 @@
 use mathlib.Core.Path.{refl}
 use Prim.Native.Nat.{_+_}
 use Rattle.outline.specs.WalkCalls.{endCall}
-use Rattle.text.specs.Program.{carriedEnd}
-use Rattle.text.specs.Stream.{carriedStep}
+use Rattle.text_program.specs.Program.{carriedEnd}
+use Rattle.text_program.specs.Stream.{carriedStep}
 use Rattle.stream.proofs.Places.{written, steps-to}
 use borrow.Author.Needs.{needs}
 use Rattle.stream.proofs.line.ended_line.Statement.{statement}

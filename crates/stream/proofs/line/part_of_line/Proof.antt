@@ -5,7 +5,7 @@ use mathlib.Core.List.{[]}
 use native.Mathlib.Omega.{arith}
 use borrow.Author.Needs.{needs}
 use borrow.Author.Tests.{le-leb, lt-leb}
-use Rattle.text.proofs.StepCases.{holding}
+use Rattle.text_program.proofs.StepCases.{holding}
 use Rattle.stream.proofs.Places.{steps-to, nothing-written}
 use Rattle.stream.proofs.line.part_of_line.Statement.{statement}
 use Rattle.stream.proofs.line.part_of_line.Tie as tie
@@ -28,7 +28,7 @@ add-t11 c = omega (arith, c .before .before .before .pre .place)
 returns-2 : tie.Need-returns-2
 returns-2 c =
     let s = c .before .before .before in
-    rw (lt-leb (s .args .state .held + s .args .size) 32 (c .before .if1 .left)) (steps-to (holding (s .args .state) (s .args .sheet) (s .args .size)) refl (nothing-written [] (s .args .put)) .answer)
+    rw (lt-leb (s .args .state .held + s .args .size) 32 (c .before .if1 .left)) (steps-to (holding (s .args .state) (s .args .sheet) (s .args .size)) refl (nothing-written [] (s .args .filled)) .answer)
 
 pub part-of-line-spec : {M : Type 1} → statement M
 part-of-line-spec = tie.close (tie.spec cast-held add-held halt-requires returns add-t11 returns-2)

@@ -1,7 +1,7 @@
 -- `stream::line::told_line` meets its contract.
 use mathlib.Core.Path.{refl}
-use Rattle.text.specs.Stream.{carriedStep}
-use Rattle.text.specs.Program.{told}
+use Rattle.text_program.specs.Stream.{carriedStep}
+use Rattle.text_program.specs.Program.{told}
 use Prim.Native.Nat.{_+_}
 use Rattle.stream.proofs.Places.{written, steps-to}
 use borrow.Author.Needs.{needs}

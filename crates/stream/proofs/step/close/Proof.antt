@@ -1,7 +1,7 @@
 -- `stream::step::close` meets its contract: there is room, so the S line is written whole.
 use native.Mathlib.Omega.{arith}
 use borrow.Author.Needs.{needs}
-use Rattle.text.specs.Stream.{closing}
+use Rattle.text_program.specs.Stream.{closing}
 use Rattle.stream.proofs.Places.{written, steps-to}
 use Rattle.stream.proofs.step.close.Statement.{statement}
 use Rattle.stream.proofs.step.close.Tie as tie

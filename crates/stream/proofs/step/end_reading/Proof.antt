@@ -2,7 +2,7 @@
 use mathlib.Core.List.{[]}
 use native.Mathlib.Omega.{arith}
 use borrow.Author.Needs.{needs}
-use Rattle.text.specs.Stream.{ending}
+use Rattle.text_program.specs.Stream.{ending}
 use Rattle.stream.proofs.Places.{written, steps-to}
 use Rattle.stream.proofs.step.end_reading.Statement.{statement}
 use Rattle.stream.proofs.step.end_reading.Tie as tie

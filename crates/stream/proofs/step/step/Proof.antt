@@ -8,7 +8,7 @@ use borrow.Author.Tests.{lt-ltb, le-ltb}
 use lib.Dec.{eqb, ltb}
 use lib.ListN.{length, drop, length-drop}
 use Rattle.integers.proofs.Flags.{tells}
-use Rattle.printing.specs.Put.{lineRoom}
+use Rattle.printing.specs.Buffer.{lineRoom}
 use Rattle.stream.proofs.Places.{same-step, halts}
 use Rattle.stream.proofs.LineLaws.{passes-over}
 use Rattle.stream.proofs.StepLaws.{steps-no-more, lacks-room, steps-to-close, steps-to-wait, steps-to-line, line-too-many}
@@ -21,7 +21,7 @@ halt-requires c κs = search needs
 returns : tie.Need-returns
 returns c =
     let s = c .before .before .before .before in
-    same-step (steps-no-more (s .args .last) (s .args .state) (s .args .sheet) (drop (s .args .at) (s .args .chunk .now)) (length (s .args .out .now) - s .args .put) (c .before .if1 .taken)) (halts (c .halt .ensures))
+    same-step (steps-no-more (s .args .last) (s .args .state) (s .args .sheet) (drop (s .args .at) (s .args .chunk .now)) (length (s .args .out .now) - s .args .filled) (c .before .if1 .taken)) (halts (c .halt .ensures))
 
 sub-if2 : tie.Need-sub-if2
 sub-if2 c = search needs
@@ -32,11 +32,11 @@ halt-requires-2 c κs = search needs
 returns-2 : tie.Need-returns-2
 returns-2 c =
     let s = c .before .before .before .before .before in
-    same-step (lacks-room (s .args .last) (s .args .state) (s .args .sheet) (drop (s .args .at) (s .args .chunk .now)) (length (s .args .out .now) - s .args .put) (lt-ltb (length (s .args .out .now) - s .args .put) lineRoom (c .before .if2 .taken))) (halts (c .halt2 .ensures))
+    same-step (lacks-room (s .args .last) (s .args .state) (s .args .sheet) (drop (s .args .at) (s .args .chunk .now)) (length (s .args .out .now) - s .args .filled) (lt-ltb (length (s .args .out .now) - s .args .filled) lineRoom (c .before .if2 .taken))) (halts (c .halt2 .ensures))
 
 -- There is room for a line.
-has-room : (c : tie.Else2) → (let s = c .before .before .before .before in ltb (length (s .args .out .now) - s .args .put) lineRoom ≡ false)
-has-room c = let s = c .before .before .before .before in le-ltb (length (s .args .out .now) - s .args .put) lineRoom (c .if2 .left)
+has-room : (c : tie.Else2) → (let s = c .before .before .before .before in ltb (length (s .args .out .now) - s .args .filled) lineRoom ≡ false)
+has-room c = let s = c .before .before .before .before in le-ltb (length (s .args .out .now) - s .args .filled) lineRoom (c .if2 .left)
 
 sub-left : tie.Need-sub-left
 sub-left c = search needs
@@ -57,7 +57,7 @@ due c = let s = c .before .before .before .before .before in c .at-end .ensures 
 returns-3 : tie.Need-returns-3
 returns-3 c =
     let s = c .before .before .before .before .before .before .before .before .before .before in
-    same-step (steps-to-close (s .args .last) (s .args .state) (s .args .sheet) (drop (s .args .at) (s .args .chunk .now)) (length (s .args .out .now) - s .args .put) (c .before .before .before .before .before .before .before .if1 .left) (has-room (c .before .before .before .before .before .before)) (tells (due (c .before .before .before .before .before)) (c .before .before .before .before .if3 .taken))) (c .before .before .close .ensures)
+    same-step (steps-to-close (s .args .last) (s .args .state) (s .args .sheet) (drop (s .args .at) (s .args .chunk .now)) (length (s .args .out .now) - s .args .filled) (c .before .before .before .before .before .before .before .if1 .left) (has-room (c .before .before .before .before .before .before)) (tells (due (c .before .before .before .before .before)) (c .before .before .before .before .if3 .taken))) (c .before .before .close .ensures)
 
 waits-requires : tie.Need-waits-requires
 waits-requires c κs = search needs
@@ -72,7 +72,7 @@ nothing c = let s = c .before .before .before .before .before .before .before in
 returns-4 : tie.Need-returns-4
 returns-4 c =
     let s = c .before .before .before .before .before .before .before .before .before in
-    same-step (steps-to-wait (s .args .last) (s .args .state) (s .args .sheet) (drop (s .args .at) (s .args .chunk .now)) (length (s .args .out .now) - s .args .put) (c .before .before .before .before .before .before .if1 .left) (has-room (c .before .before .before .before .before)) (tells (due (c .before .before .before .before)) (c .before .before .before .if3 .left)) (tells (nothing (c .before .before)) (c .before .if4 .taken))) (halts (c .halt3 .ensures))
+    same-step (steps-to-wait (s .args .last) (s .args .state) (s .args .sheet) (drop (s .args .at) (s .args .chunk .now)) (length (s .args .out .now) - s .args .filled) (c .before .before .before .before .before .before .if1 .left) (has-room (c .before .before .before .before .before)) (tells (due (c .before .before .before .before)) (c .before .before .before .if3 .left)) (tells (nothing (c .before .before)) (c .before .if4 .taken))) (halts (c .halt3 .ensures))
 
 end-reading-requires : tie.Need-end-reading-requires
 end-reading-requires c κs = search needs
@@ -85,7 +85,7 @@ returns-5 c =
     let s = c .before .before .before .before .before .before .before .before .before .before .before .before .before .before in
     let rest = drop (s .args .at) (s .args .chunk .now) in
     same-step
-    (steps-to-line (s .args .last) (s .args .state) (s .args .sheet) rest (length (s .args .out .now) - s .args .put) (c .before .before .before .before .before .before .before .before .before .before .before .if1 .left) (has-room (c .before .before .before .before .before .before .before .before .before .before)) (tells (due (c .before .before .before .before .before .before .before .before .before)) (c .before .before .before .before .before .before .before .before .if3 .left)) (tells (nothing (c .before .before .before .before .before .before .before)) (c .before .before .before .before .before .before .if4 .left))
+    (steps-to-line (s .args .last) (s .args .state) (s .args .sheet) rest (length (s .args .out .now) - s .args .filled) (c .before .before .before .before .before .before .before .before .before .before .before .if1 .left) (has-room (c .before .before .before .before .before .before .before .before .before .before)) (tells (due (c .before .before .before .before .before .before .before .before .before)) (c .before .before .before .before .before .before .before .before .if3 .left)) (tells (nothing (c .before .before .before .before .before .before .before)) (c .before .before .before .before .before .before .if4 .left))
     ∙ line-too-many (s .args .last) (s .args .state) (s .args .sheet) rest (c .before .before .before .before .if5 .taken))
     (passes-over (s .args .state) (s .args .sheet) rest (omega (arith, length-drop (s .args .at) (s .args .chunk .now), s .pre .0)) (c .before .before .end-reading .ensures))
 
@@ -98,7 +98,7 @@ same-length-3 c = search needs
 returns-6 : tie.Need-returns-6
 returns-6 c =
     let s = c .before .before .before .before .before .before .before .before .before .before .before .before .before .before in
-    same-step (steps-to-line (s .args .last) (s .args .state) (s .args .sheet) (drop (s .args .at) (s .args .chunk .now)) (length (s .args .out .now) - s .args .put) (c .before .before .before .before .before .before .before .before .before .before .before .if1 .left) (has-room (c .before .before .before .before .before .before .before .before .before .before)) (tells (due (c .before .before .before .before .before .before .before .before .before)) (c .before .before .before .before .before .before .before .before .if3 .left)) (tells (nothing (c .before .before .before .before .before .before .before)) (c .before .before .before .before .before .before .if4 .left))) (c .before .before .line-step .ensures)
+    same-step (steps-to-line (s .args .last) (s .args .state) (s .args .sheet) (drop (s .args .at) (s .args .chunk .now)) (length (s .args .out .now) - s .args .filled) (c .before .before .before .before .before .before .before .before .before .before .before .if1 .left) (has-room (c .before .before .before .before .before .before .before .before .before .before)) (tells (due (c .before .before .before .before .before .before .before .before .before)) (c .before .before .before .before .before .before .before .before .if3 .left)) (tells (nothing (c .before .before .before .before .before .before .before)) (c .before .before .before .before .before .before .if4 .left))) (c .before .before .line-step .ensures)
 
 pub step-spec : {M : Type 1} → statement M
 step-spec =

@@ -1,0 +1,4 @@
+pub mod Sizes
+pub mod ListSteps
+pub mod PossibleWalks
+pub mod ReadingLaws

@@ -1,0 +1,65 @@
+-- A list that the call accepts, and one step of the copy and of the sum over a list of numbers, by index.
+use mathlib.Core.Path.{_≡_, refl, sym, ap}
+use mathlib.Core.Bool.{false, _||_}
+use mathlib.Core.List.{List, [], _∷_, _++_}
+use Prim.Native.Nat.{ℕ, zero, suc, _+_, _*_, _-_, _≤_, _<_}
+use native.Mathlib.Nat.{not-suc-le-zero, le-of-suc-le-suc}
+use native.Mathlib.Numerals.{add-one}
+use native.Mathlib.Omega.{arith}
+use lib.ListN.{length, getD, take, drop, set}
+use lib.Seq.{take-length}
+use lib.IntN.{ℤ, pos}
+use Rattle.outline.specs.declared.Position.{Position}
+use Rattle.outline.specs.declared.Totals.{Totals}
+use Rattle.outline.specs.EdgeSums.{openEdges, sumOver, totalsOver, outlineTotals, zeros, plus, exceed}
+use Rattle.outline.specs.ListCall.{points, wrongLength, outside, anyOutside, listCall}
+use Rattle.outline.specs.MapCall.{totalLimits}
+use Rattle.outline.specs.WalkCalls.{origin, edgeTotals}
+use Rattle.outline.proofs.Every.{all-at}
+use Rattle.outline.proofs.Limits.{Inside, OutlineList, not-outside, accepts-only-outlines, first-fit}
+use Rattle.outline.proofs.IndexLaws.{totals-next, totals-closing}
+use Rattle.outline_calls.proofs.Sizes.{share-within}
+
+-- ---- accepted lists
+
+pub outline-list : (zs : List ℤ) → wrongLength zs ≡ false → anyOutside (points zs) ≡ false → OutlineList zs
+unfolding listCall
+outline-list zs e f = accepts-only-outlines zs (outlineTotals (points zs)) (rw (e, f)) .0
+
+-- Each point is within the limits.
+pub point-inside : (zs : List ℤ) (k : ℕ) {p : Position} → OutlineList zs → k < length (points zs) → p ≡ getD (points zs) k origin → outside p ≡ false
+point-inside zs k o h e = rw e (not-outside (getD (points zs) k origin) (all-at Inside (points zs) k origin (o .outline .inside) h))
+
+-- The sum of the first edges can be added to.
+pub sum-within : (zs : List ℤ) (k : ℕ) {t : Totals} → OutlineList zs → k ≤ length (points zs) → t ≡ totalsOver (openEdges (take k (points zs))) → exceed totalLimits t ≡ false
+sum-within zs k {t} o h e = let few = o .outline .few in rw e (share-within k (totalsOver (openEdges (take k (points zs)))) (omega arith) (first-fit k (points zs) h (o .outline .inside)))
+
+-- ---- the copy to the front of a buffer
+
+copied-one : (s d : List ℤ) (i : ℕ) → i < length s → i < length d → set (take i s ++ drop i d) i (getD s i (pos 0)) ≡ take (suc i) s ++ drop (suc i) d
+copied-one [] d i h k = absurd (not-suc-le-zero h)
+copied-one (x ∷ s) [] i h k = absurd (not-suc-le-zero k)
+copied-one (x ∷ s) (y ∷ d) zero h k = refl
+copied-one (x ∷ s) (y ∷ d) (suc i) h k = ap {B = List ℤ} (λ l. x ∷ l) (copied-one s d i (le-of-suc-le-suc h) (le-of-suc-le-suc k))
+
+-- The buffer b holds the first k pairs of s before what was in d, and the numbers x and y are the next pair.
+pub copied-pair : (s d : List ℤ) (k : ℕ) {b : List ℤ} {x y : ℤ} → 2 * k + 1 < length s → length s ≤ length d → b ≡ take (2 * k) s ++ drop (2 * k) d → x ≡ getD s (2 * k) (pos 0) → y ≡ getD s (2 * k + 1) (pos 0) → set (set b (2 * k) x) (2 * k + 1) y ≡ take (2 * (k + 1)) s ++ drop (2 * (k + 1)) d
+copied-pair s d k h r e f g =
+    let next : 2 * (k + 1) ≡ suc (suc (2 * k)) = omega arith in
+    rw (e, f, g, copied-one s d (2 * k) (omega arith) (omega arith), add-one (2 * k), next) (copied-one s d (suc (2 * k)) (omega arith) (omega arith))
+
+-- ---- the sum of the edges
+
+pub no-edges : (ps : List Position) → zeros ≡ totalsOver (openEdges (take 1 ps))
+unfolding openEdges sumOver
+no-edges [] = refl
+no-edges (p ∷ ps) = refl
+
+-- The point p after the first k, of which last is the last one.
+pub edges-next : (ps : List Position) (k : ℕ) {last p : Position} {sum edge r : Totals} → 0 < k → k < length ps → last ≡ getD ps (k - 1) origin → p ≡ getD ps k origin → sum ≡ totalsOver (openEdges (take k ps)) → edge ≡ edgeTotals last p → r ≡ plus sum edge → r ≡ totalsOver (openEdges (take (k + 1) ps))
+edges-next ps zero h l a b c d e = absurd (not-suc-le-zero h)
+edges-next ps (suc k) h l a b c d e = let back : suc k - 1 ≡ k = omega arith in rw (e, c, d, a, b, add-one, back) (sym (totals-next ps k origin l))
+
+-- All points are walked, and the closing edge comes last.
+pub edges-closed : (ps : List Position) (k : ℕ) {last first : Position} {sum edge r : Totals} → 0 < k → k ≡ length ps → last ≡ getD ps (k - 1) origin → first ≡ getD ps 0 origin → sum ≡ totalsOver (openEdges (take k ps)) → edge ≡ edgeTotals last first → r ≡ plus sum edge → r ≡ outlineTotals ps
+edges-closed ps k h l a b c d e = rw (e, c, d, a, b, l, take-length ps) (sym (totals-closing ps origin (omega arith)))

@@ -1,0 +1,78 @@
+// The call on a whole list: an outline as one list of numbers, x and y in turn.
+ghost use mathlib.Core.Path.{_≡_};
+ghost use mathlib.Core.Bool.{false};
+ghost use mathlib.Core.List.{_++_};
+ghost use Prim.Native.Nat.{_%_, _≤_};
+ghost use lib.ListN.{length, drop};
+ghost use Rattle.outline.specs.EdgeSums.{outlineTotals};
+ghost use Rattle.outline.specs.ListCall.{points as pointsOf, wrongLength, anyOutside, listCall};
+ghost use Rattle.outline_calls.specs.ListAnswer.{reading};
+use crate::add;
+use crate::edge_between;
+use outline::Totals;
+use outline::ZEROS;
+use point_list::any_outside;
+use point_list::position_at;
+use point_list::wrong_length;
+
+pub enum OutlineAnswer {
+    Accepted(Totals),
+    WrongLength,
+    OutsideLimits,
+}
+
+// The points to the front of the buffer; what lies behind them stays.
+fn copy_points(points: &[i32], buffer: &mut [i32])
+    requires { ⌜ length (now points) % 2 ≡ 0 ⌝ }
+    requires { ⌜ length (now points) ≤ length (now buffer) ⌝ }
+    ensures { λ _. ⌜ now (buffer .exit) ≡ now (points .entry) ++ drop (length (now (points .entry))) (now (buffer .entry)) ⌝ }
+{
+    let pairs = points.len() / 2;
+    let mut pair = 0;
+    while pair < pairs {
+        let p = position_at(points, pair);
+        let x = p.x;
+        let y = p.y;
+        buffer[2 * pair] = x;
+        buffer[2 * pair + 1] = y;
+        pair += 1;
+    }
+}
+
+// The totals of an outline: each edge from one point to the next, and the closing edge.
+fn sum_edges(points: &[i32]) -> Totals
+    requires { ⌜ wrongLength (now points) ≡ false ⌝ }
+    requires { ⌜ anyOutside (pointsOf (now points)) ≡ false ⌝ }
+    ensures { λ r. ⌜ r ≡ outlineTotals (pointsOf (now (points .entry))) ⌝ }
+{
+    let n = points.len() / 2;
+    let first = position_at(points, 0);
+    let mut last = first;
+    let mut sum = ZEROS;
+    let mut k = 1;
+    while k < n {
+        let p = position_at(points, k);
+        let e = edge_between(last, p);
+        sum = add(sum, e);
+        last = p;
+        k += 1;
+    }
+    let e = edge_between(last, first);
+    add(sum, e)
+}
+
+// The points are copied to a buffer of the call's own and summed from there.
+pub fn outline_totals(points: &[i32]) -> OutlineAnswer
+    ensures { λ r. ⌜ reading r ≡ listCall (now (points .entry)) ⌝ }
+{
+    if wrong_length(points) {
+        return OutlineAnswer::WrongLength;
+    }
+    if any_outside(points) {
+        return OutlineAnswer::OutsideLimits;
+    }
+    let mut buffer = [0; 2048];
+    copy_points(points, &mut buffer);
+    let n = points.len();
+    OutlineAnswer::Accepted(sum_edges(&buffer[..n]))
+}

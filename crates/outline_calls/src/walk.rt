@@ -1,0 +1,181 @@
+// The calls of a walk that add an edge, by value: each is handed the walk, and end the sheet too, and hands back what it leaves.
+ghost use mathlib.Core.Path.{_≡_};
+ghost use mathlib.Core.Bool.{true, false};
+ghost use Prim.Native.Nat.{_<_, _≤_};
+ghost use Rattle.outline.specs.ListCall.{outside};
+ghost use Rattle.outline.specs.WalkCalls.{extended, closedTotals, impossibleWalk, impossibleSheet, pointCall, endCall};
+ghost use Rattle.outline_calls.specs.WalkAnswers.{pointReading, endReading};
+use crate::add;
+use crate::edge_between;
+use limits::outside_limits;
+use limits::position_outside;
+use outline::Position;
+use outline::Sheet;
+use outline::Totals;
+use outline::Walk;
+use walk_state::impossible_sheet;
+use walk_state::impossible_walk;
+use walk_state::new_walk;
+
+pub enum PointAnswer {
+    Accepted,
+    Impossible,
+    NotOpen,
+    OutsideLimits,
+    Full,
+}
+
+pub struct PointReply {
+    pub answer: PointAnswer,
+    pub walk: Walk,
+}
+
+pub enum EndAnswer {
+    Accepted(Totals),
+    Impossible,
+    NotOpen,
+    TooFewPoints,
+    SheetFull,
+    SheetExceeded,
+}
+
+pub struct EndReply {
+    pub answer: EndAnswer,
+    pub walk: Walk,
+    pub sheet: Sheet,
+}
+
+// The walk with one point more.
+fn extended_walk(w: Walk, p: Position) -> Walk
+    requires { ⌜ impossibleWalk w ≡ false ⌝ }
+    requires { ⌜ w .is_open ≡ true ⌝ }
+    requires { ⌜ w .count < 1024 ⌝ }
+    requires { ⌜ outside p ≡ false ⌝ }
+    ensures { λ r. ⌜ r ≡ extended w p ⌝ }
+{
+    let totals = w.totals;
+    if w.count == 0 {
+        return Walk {
+            is_open: w.is_open,
+            count: 1,
+            first: p,
+            last: p,
+            totals,
+        };
+    }
+    let first = w.first;
+    let last = w.last;
+    let edge = edge_between(last, p);
+    let sum = add(totals, edge);
+    Walk {
+        is_open: w.is_open,
+        count: w.count + 1,
+        first,
+        last: p,
+        totals: sum,
+    }
+}
+
+pub fn point(w: Walk, x: i32, y: i32) -> PointReply
+    ensures { λ r. ⌜ pointReading r ≡ pointCall w (record { x = x; y = y }) ⌝ }
+{
+    if impossible_walk(w) {
+        return PointReply {
+            answer: PointAnswer::Impossible,
+            walk: w,
+        };
+    }
+    if !w.is_open {
+        return PointReply {
+            answer: PointAnswer::NotOpen,
+            walk: w,
+        };
+    }
+    let p = Position { x, y };
+    if position_outside(p) {
+        return PointReply {
+            answer: PointAnswer::OutsideLimits,
+            walk: w,
+        };
+    }
+    if 1024 <= w.count {
+        return PointReply {
+            answer: PointAnswer::Full,
+            walk: w,
+        };
+    }
+    let extended = extended_walk(w, p);
+    PointReply {
+        answer: PointAnswer::Accepted,
+        walk: extended,
+    }
+}
+
+// The walk's totals with the closing edge.
+fn closed_totals(w: Walk) -> Totals
+    requires { ⌜ impossibleWalk w ≡ false ⌝ }
+    requires { ⌜ w .is_open ≡ true ⌝ }
+    requires { ⌜ 3 ≤ w .count ⌝ }
+    ensures { λ r. ⌜ r ≡ closedTotals w ⌝ }
+{
+    let totals = w.totals;
+    let last = w.last;
+    let first = w.first;
+    let edge = edge_between(last, first);
+    add(totals, edge)
+}
+
+fn refused_end(answer: EndAnswer, held: Walk, sheet: Sheet) -> EndReply
+    ensures { λ r. ⌜ r ≡ record { answer = answer; walk = held; sheet = sheet } ⌝ }
+{
+    EndReply {
+        answer,
+        walk: held,
+        sheet,
+    }
+}
+
+// Adds the outline of a walk to the sheet, or refuses with 26.
+fn add_to_sheet(w: Walk, s: Sheet) -> EndReply
+    requires { ⌜ impossibleWalk w ≡ false ⌝ }
+    requires { ⌜ impossibleSheet s ≡ false ⌝ }
+    requires { ⌜ w .is_open ≡ true ⌝ }
+    requires { ⌜ 3 ≤ w .count ⌝ }
+    requires { ⌜ s .count < 64 ⌝ }
+    ensures { λ r. ⌜ endReading r ≡ endCall w s ⌝ }
+{
+    let added = closed_totals(w);
+    let earlier = s.totals;
+    let sums = add(earlier, added);
+    if outside_limits(sums) {
+        return refused_end(EndAnswer::SheetExceeded, w, s);
+    }
+    let walk = new_walk();
+    let sheet = Sheet {
+        count: s.count + 1,
+        totals: sums,
+    };
+    EndReply {
+        answer: EndAnswer::Accepted(added),
+        walk,
+        sheet,
+    }
+}
+
+pub fn end(w: Walk, s: Sheet) -> EndReply
+    ensures { λ r. ⌜ endReading r ≡ endCall w s ⌝ }
+{
+    if impossible_walk(w) | impossible_sheet(s) {
+        return refused_end(EndAnswer::Impossible, w, s);
+    }
+    if !w.is_open {
+        return refused_end(EndAnswer::NotOpen, w, s);
+    }
+    if w.count < 3 {
+        return refused_end(EndAnswer::TooFewPoints, w, s);
+    }
+    if 64 <= s.count {
+        return refused_end(EndAnswer::SheetFull, w, s);
+    }
+    add_to_sheet(w, s)
+}

@@ -1,0 +1,96 @@
+-- The line at a place by the bytes that the code reads there: one law for each return of `second`, `point_form` and `whole_form`.
+use Prim.Native.Nat.{ℕ, _+_, _<_, _≤_}
+use mathlib.Core.Path.{_≡_, refl, sym, ap, _∙_}
+use mathlib.Core.List.{List, [], _∷_}
+use native.Mathlib.Omega.{arith}
+use lib.IntN.{ℤ}
+use lib.ListN.{length, drop, getD}
+use lib.Seq.{drop-drop}
+use Rattle.parsing.specs.Grammar.{Number, number, malformed, numberOf, Form, point, pointOf, formOf}
+use Rattle.parsing.specs.ReadForm.{Front, noForm, formed}
+use Rattle.parsing.specs.Parts.{numberToken, numberAt, secondForm, lineFront}
+use Rattle.parsing.specs.declared.number.NumberAt.{NumberAt}
+use Rattle.parsing.proofs.Tokens.{token-size}
+use Rattle.parsing.proofs.NumberReads.{byte-at}
+use Rattle.parsing.proofs.Fronts.{number-none, Found, number-some, number-size, y-ends, y-goes-on, y-malformed, past-x, x-malformed, x-no-tab, p-no-tab, p-line, long-line, letter-line, other-line}
+
+-- Where the number behind the tab at `at` ends.
+abbrev numberEnd : List ℕ → ℕ → ℕ
+numberEnd s at = at + 1 + length (numberToken (drop (at + 1) s))
+
+module _ (s : List ℕ) (at : ℕ) where
+  -- What stands from `at` on, by its first byte.
+  begins : (f : List ℕ → Form) (b : ℕ) → at < length s → getD s at 0 ≡ b → lineFront f (drop at s) at ≡ lineFront f (b ∷ drop (at + 1) s) at
+  begins f b h e = ap (λ (l : List ℕ). lineFront f l at) (byte-at s at h ∙ ap (λ (c : ℕ). c ∷ drop (at + 1) s) e)
+
+  pub second-no-tab : (n : Number) → at < length s → (getD s at 0 ≡ 9 → ⊥) → noForm ≡ lineFront (secondForm n) (drop at s) at
+  second-no-tab n h t = sym (begins (secondForm n) (getD s at 0) h refl ∙ x-no-tab n (getD s at 0) (drop (at + 1) s) at t)
+
+  pub point-no-tab : at < length s → (getD s at 0 ≡ 9 → ⊥) → noForm ≡ lineFront (λ bs. formOf (80 ∷ bs)) (drop at s) at
+  point-no-tab h t = sym (begins (λ bs. formOf (80 ∷ bs)) (getD s at 0) h refl ∙ p-no-tab (getD s at 0) (drop (at + 1) s) at t)
+
+  pub after-p : at < length s → getD s at 0 ≡ 80 → lineFront (λ bs. formOf (80 ∷ bs)) (drop (at + 1) s) (at + 1) ≡ lineFront formOf (drop at s) at
+  after-p h e = sym (begins formOf 80 h e ∙ p-line (drop (at + 1) s) at)
+
+  -- A tab at `at`, and the number r behind it.
+  module _ (room : at + 7 ≤ length s) (tab : getD s at 0 ≡ 9) (r : NumberAt) (e : r ≡ numberAt (drop (at + 1) s)) where
+    in-line : numberEnd s at < length s
+    in-line = omega (arith, token-size (drop (at + 1) s))
+
+    behind : drop (length (numberToken (drop (at + 1) s))) (drop (at + 1) s) ≡ getD s (numberEnd s at) 0 ∷ drop (numberEnd s at + 1) s
+    behind = drop-drop (length (numberToken (drop (at + 1) s))) (at + 1) s ∙ byte-at s (numberEnd s at) in-line
+
+    pub size-small : r .size ≤ 5
+    size-small = rw e (number-size (drop (at + 1) s))
+
+    no-number : r .size ≡ 0 → numberOf (numberToken (drop (at + 1) s)) ≡ malformed
+    no-number h = number-none (drop (at + 1) s) (ap (λ (q : NumberAt). q .size) (sym e) ∙ h)
+
+    found : (r .size ≡ 0 → ⊥) → Found (drop (at + 1) s)
+    found h = number-some (drop (at + 1) s) (λ k. h (ap (λ (q : NumberAt). q .size) e ∙ k))
+
+    token-length : (r .size ≡ 0 → ⊥) → length (numberToken (drop (at + 1) s)) ≡ r .size
+    token-length h = found h .size ∙ ap (λ (q : NumberAt). q .size) (sym e)
+
+    token-value : (r .size ≡ 0 → ⊥) → numberOf (numberToken (drop (at + 1) s)) ≡ number (r .value)
+    token-value h = found h .value ∙ ap (λ (q : NumberAt). number (q .value)) (sym e)
+
+    pub second-malformed : (n : Number) → r .size ≡ 0 → noForm ≡ lineFront (secondForm n) (drop at s) at
+    second-malformed n h = sym (begins (secondForm n) 9 (omega arith) tab ∙ y-malformed (drop (at + 1) s) at behind n (no-number h))
+
+    pub second-goes-on : (n : Number) → (r .size ≡ 0 → ⊥) → (getD s (at + 1 + r .size) 0 ≡ 10 → ⊥) → noForm ≡ lineFront (secondForm n) (drop at s) at
+    second-goes-on n h k = sym (begins (secondForm n) 9 (omega arith) tab ∙ y-goes-on (drop (at + 1) s) at behind n (λ q. k (ap (λ (i : ℕ). getD s (at + 1 + i) 0) (sym (token-length h)) ∙ q)))
+
+    pub second-ends : (x : ℤ) → (r .size ≡ 0 → ⊥) → getD s (at + 1 + r .size) 0 ≡ 10 → _≡_ {A = Front} (record { form = point x (r .value); next = at + 1 + r .size + 1 }) (lineFront (secondForm (number x)) (drop at s) at)
+    unfolding formed pointOf
+    second-ends x h k =
+        sym (begins (secondForm (number x)) 9 (omega arith) tab
+        ∙ (y-ends (drop (at + 1) s) at behind (number x) (ap (λ (i : ℕ). getD s (at + 1 + i) 0) (token-length h) ∙ k)
+        ∙ (ap (λ (q : Number). formed (pointOf (number x) q) (numberEnd s at + 1)) (token-value h)
+        ∙ ap (λ (i : ℕ). formed (point x (r .value)) (at + 1 + i + 1)) (token-length h))))
+
+    pub point-malformed-x : r .size ≡ 0 → noForm ≡ lineFront (λ bs. formOf (80 ∷ bs)) (drop at s) at
+    point-malformed-x h = sym (begins (λ bs. formOf (80 ∷ bs)) 9 (omega arith) tab ∙ x-malformed (drop (at + 1) s) at behind (no-number h))
+
+    pub point-rest : (r .size ≡ 0 → ⊥) → lineFront (secondForm (number (r .value))) (drop (at + 1 + r .size) s) (at + 1 + r .size) ≡ lineFront (λ bs. formOf (80 ∷ bs)) (drop at s) at
+    point-rest h =
+        sym (begins (λ bs. formOf (80 ∷ bs)) 9 (omega arith) tab
+        ∙ (past-x (drop (at + 1) s) at behind
+        ∙ (ap (λ (l : List ℕ). lineFront (secondForm (numberOf (numberToken (drop (at + 1) s)))) l (numberEnd s at)) (sym (byte-at s (numberEnd s at) in-line))
+        ∙ (ap (λ (q : Number). lineFront (secondForm q) (drop (numberEnd s at) s) (numberEnd s at)) (token-value h)
+        ∙ ap (λ (i : ℕ). lineFront (secondForm (number (r .value))) (drop (at + 1 + i) s) (at + 1 + i)) (token-length h)))))
+
+  -- Two bytes.
+  module _ (room : at + 2 ≤ length s) where
+    two-bytes : (b c : ℕ) → getD s at 0 ≡ b → getD s (at + 1) 0 ≡ c → lineFront formOf (drop at s) at ≡ lineFront formOf (b ∷ c ∷ drop (at + 1 + 1) s) at
+    two-bytes b c e d = begins formOf b (omega arith) e ∙ ap (λ (l : List ℕ). lineFront formOf (b ∷ l) at) (byte-at s (at + 1) (omega arith) ∙ ap (λ (q : ℕ). q ∷ drop (at + 1 + 1) s) d)
+
+    pub too-long : (getD s at 0 ≡ 80 → ⊥) → (getD s (at + 1) 0 ≡ 10 → ⊥) → noForm ≡ lineFront formOf (drop at s) at
+    too-long h k = sym (two-bytes (getD s at 0) (getD s (at + 1) 0) refl refl ∙ long-line (getD s at 0) (getD s (at + 1) 0) (drop (at + 1 + 1) s) at h k)
+
+    module _ (newline : getD s (at + 1) 0 ≡ 10) where
+      pub letter : (b : ℕ) → getD s at 0 ≡ b → (b ≡ 10 → ⊥) → formed (formOf (b ∷ [])) (at + 2) ≡ lineFront formOf (drop at s) at
+      letter b e h = sym (two-bytes b 10 e newline ∙ letter-line b (drop (at + 1 + 1) s) at h)
+
+      pub no-letter : (getD s at 0 ≡ 66 → ⊥) → (getD s at 0 ≡ 69 → ⊥) → (getD s at 0 ≡ 65 → ⊥) → noForm ≡ lineFront formOf (drop at s) at
+      no-letter h k m = sym (two-bytes (getD s at 0) 10 refl newline ∙ other-line (getD s at 0) (drop (at + 1 + 1) s) at h k m)

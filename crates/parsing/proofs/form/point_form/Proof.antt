@@ -1,0 +1,59 @@
+-- `point_form` reads a tab and x, and hands on what follows.
+use Prim.Native.Nat.{_+_}
+use mathlib.Core.Path.{_≡_, ap, _∙_}
+use native.Mathlib.Omega.{arith}
+use lib.IntN.{ℤ}
+use lib.ListN.{drop}
+use mir.Syntax.{w32}
+use mir.Val.{toZ, ofZ}
+use Rattle.parsing.specs.Grammar.{number}
+use Rattle.parsing.specs.Parts.{secondForm, lineFront}
+use Rattle.parsing.proofs.Places.{point-no-tab, point-malformed-x, point-rest, size-small}
+use borrow.Author.Needs.{needs}
+use Rattle.parsing.proofs.form.point_form.Statement.{statement}
+use Rattle.parsing.proofs.form.point_form.Tie as tie
+
+shared-slice-read-if1 : tie.Need-shared-slice-read-if1
+shared-slice-read-if1 c = search needs
+
+returns : tie.Need-returns
+returns c = let s = c .before .before .before in point-no-tab (s .args .s .now) (s .args .at) (omega arith) (c .if1 .taken)
+
+add-read-number : tie.Need-add-read-number
+add-read-number c = search needs
+
+read-number-requires : tie.Need-read-number-requires
+read-number-requires c κs = search needs
+
+returns-2 : tie.Need-returns-2
+returns-2 c = let s = c .before .before .before .before .before .before in point-malformed-x (s .args .s .now) (s .args .at) (omega arith) (c .before .before .before .if1 .left) (c .before .before .read-number .result) (c .before .before .read-number .ensures) (c .if2 .taken)
+
+add-second : tie.Need-add-second
+add-second c = search needs
+
+add-second-2 : tie.Need-add-second-2
+add-second-2 c = let s = c .before .before .before .before .before .before in omega (arith, size-small (s .args .s .now) (s .args .at) (omega arith) (c .before .before .before .if1 .left) (c .before .before .read-number .result) (c .before .before .read-number .ensures))
+
+second-requires : tie.Need-second-requires
+second-requires c κs = let s = c .before .before .before .before .before .before in omega (arith, size-small (s .args .s .now) (s .args .at) (omega arith) (c .before .before .before .if1 .left) (c .before .before .read-number .result) (c .before .before .read-number .ensures))
+
+returns-3 : tie.Need-returns-3
+returns-3 c =
+    let s = c .before .before .before .before .before .before .before in
+    let n = c .before .before .before .read-number .result in
+    let x : toZ w32 (ofZ w32 (n .value)) ≡ n .value = search needs in
+    c .second .ensures ∙ (ap (λ (z : ℤ). lineFront (secondForm (number z)) (drop (s .args .at + 1 + n .size) (s .args .s .now)) (s .args .at + 1 + n .size)) x ∙ point-rest (s .args .s .now) (s .args .at) (omega arith) (c .before .before .before .before .if1 .left) (c .before .before .before .read-number .result) (c .before .before .before .read-number .ensures) (c .before .if2 .left))
+
+pub point-form-spec : {M : Type 1} → statement M
+point-form-spec =
+    tie.close
+    (tie.spec
+    shared-slice-read-if1
+    returns
+    add-read-number
+    read-number-requires
+    returns-2
+    add-second
+    add-second-2
+    second-requires
+    returns-3)

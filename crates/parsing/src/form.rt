@@ -1,0 +1,72 @@
+// The form of a line, read in one pass over its bytes.
+ghost use mathlib.Core.Path.{_≡_};
+ghost use mathlib.Core.List.{_∷_};
+ghost use Prim.Native.Nat.{_+_, _≤_};
+ghost use lib.ListN.{length, drop};
+ghost use Rattle.parsing.specs.Grammar.{number, formOf};
+ghost use Rattle.parsing.specs.ReadForm.{reading};
+ghost use Rattle.parsing.specs.Parts.{secondForm, lineFront};
+use crate::LineForm;
+use crate::number::read_number;
+
+// After x: a tab, y and a newline.
+fn second(s: &[u8], x: i32, at: usize) -> LineForm
+    requires { ⌜ at + 7 ≤ length (now s) ⌝ }
+    ensures { λ r. ⌜ reading r ≡ lineFront (secondForm (number x)) (drop at (now (s .entry))) at ⌝ }
+{
+    if s[at] != 9 {
+        return LineForm::Other;
+    }
+    let n = read_number(s, at + 1);
+    let y = n.value;
+    let size = n.size;
+    if size == 0 {
+        return LineForm::Other;
+    }
+    let end = at + 1 + size;
+    if s[end] != 10 {
+        return LineForm::Other;
+    }
+    LineForm::Point(x, y, end + 1)
+}
+
+// After P: a tab, x and the rest.
+fn point_form(s: &[u8], at: usize) -> LineForm
+    requires { ⌜ at + 13 ≤ length (now s) ⌝ }
+    ensures { λ r. ⌜ reading r ≡ lineFront (λ bs. formOf (80 ∷ bs)) (drop at (now (s .entry))) at ⌝ }
+{
+    if s[at] != 9 {
+        return LineForm::Other;
+    }
+    let n = read_number(s, at + 1);
+    let x = n.value;
+    let size = n.size;
+    if size == 0 {
+        return LineForm::Other;
+    }
+    second(s, x, at + 1 + size)
+}
+
+// A line of the form at `at`, where as many bytes are left as the longest takes with its newline.
+pub(crate) fn whole_form(s: &[u8], at: usize) -> LineForm
+    requires { ⌜ at + 14 ≤ length (now s) ⌝ }
+    ensures { λ r. ⌜ reading r ≡ lineFront formOf (drop at (now (s .entry))) at ⌝ }
+{
+    let b = s[at];
+    if b == 80 {
+        return point_form(s, at + 1);
+    }
+    if s[at + 1] != 10 {
+        return LineForm::Other;
+    }
+    if b == 66 {
+        return LineForm::Begin(at + 2);
+    }
+    if b == 69 {
+        return LineForm::End(at + 2);
+    }
+    if b == 65 {
+        return LineForm::Abandon(at + 2);
+    }
+    LineForm::Other
+}

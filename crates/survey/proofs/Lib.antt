@@ -1,4 +1,0 @@
-pub mod Sizes
-pub mod ListSteps
-pub mod SoundWalks
-pub mod ReadingLaws

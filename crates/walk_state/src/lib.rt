@@ -1,0 +1,109 @@
+// The state of a walk: what a new walk and a new sheet are, the calls that only open a walk or give it up, by value, and the tests of refusal 28. None adds an edge.
+mod handed_in;
+
+ghost use mathlib.Core.Path.{_≡_};
+ghost use Rattle.outline.specs.WalkCalls.{closed, newSheet, beginCall, abandonCall};
+ghost use Rattle.walk_state.specs.Answers.{beginReading, abandonReading};
+pub use handed_in::impossible_sheet;
+pub use handed_in::impossible_walk;
+use outline::ORIGIN;
+use outline::Sheet;
+use outline::Walk;
+use outline::ZEROS;
+
+pub enum BeginAnswer {
+    Accepted,
+    Impossible,
+    AlreadyOpen,
+}
+
+pub struct BeginReply {
+    pub answer: BeginAnswer,
+    pub walk: Walk,
+}
+
+pub enum AbandonAnswer {
+    Accepted,
+    Impossible,
+    NotOpen,
+}
+
+pub struct AbandonReply {
+    pub answer: AbandonAnswer,
+    pub walk: Walk,
+}
+
+const CLOSED: Walk = Walk {
+    is_open: false,
+    count: 0,
+    first: ORIGIN,
+    last: ORIGIN,
+    totals: ZEROS,
+};
+
+const OPENED: Walk = Walk {
+    is_open: true,
+    count: 0,
+    first: ORIGIN,
+    last: ORIGIN,
+    totals: ZEROS,
+};
+
+// A walk that was never opened.
+pub fn new_walk() -> Walk
+    ensures { λ r. ⌜ r ≡ closed ⌝ }
+{
+    CLOSED
+}
+
+pub fn new_sheet() -> Sheet
+    ensures { λ r. ⌜ r ≡ newSheet ⌝ }
+{
+    Sheet {
+        count: 0,
+        totals: ZEROS,
+    }
+}
+
+pub fn begin(w: Walk) -> BeginReply
+    ensures { λ r. ⌜ beginReading r ≡ beginCall w ⌝ }
+{
+    if impossible_walk(w) {
+        return BeginReply {
+            answer: BeginAnswer::Impossible,
+            walk: w,
+        };
+    }
+    if w.is_open {
+        return BeginReply {
+            answer: BeginAnswer::AlreadyOpen,
+            walk: w,
+        };
+    }
+    BeginReply {
+        answer: BeginAnswer::Accepted,
+        walk: OPENED,
+    }
+}
+
+pub fn abandon(w: Walk) -> AbandonReply
+    ensures { λ r. ⌜ abandonReading r ≡ abandonCall w ⌝ }
+{
+    if impossible_walk(w) {
+        return AbandonReply {
+            answer: AbandonAnswer::Impossible,
+            walk: w,
+        };
+    }
+    if !w.is_open {
+        return AbandonReply {
+            answer: AbandonAnswer::NotOpen,
+            walk: w,
+        };
+    }
+    let walk = new_walk();
+    AbandonReply {
+        answer: AbandonAnswer::Accepted,
+        walk,
+    }
+}
