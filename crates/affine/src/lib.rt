@@ -17,6 +17,20 @@ pub enum MapAnswer {
     ResultOutsideLimits,
 }
 
+impl MapAnswer {
+    // The number of the refusal in document 01, 0 where there is none.
+    pub fn number(self) -> u32
+        ensures { λ r. ⌜ r ≡ reading self .number ⌝ }
+    {
+        match self {
+            MapAnswer::Mapped(_) => 0,
+            MapAnswer::MapOutsideLimits => 3,
+            MapAnswer::TotalsOutsideBounds => 4,
+            MapAnswer::ResultOutsideLimits => 5,
+        }
+    }
+}
+
 // The limit of a mapped total, by size.
 const TOTAL_LIMIT: u64 = 1_000_000_000_000_000_000;
 

@@ -55,7 +55,7 @@ record SixAt : Type 0 where
   not-four : Answers twoBad (BadRun 4) → ⊥
 
 six-at : SixAt
-unfolding badRun anyBad disordered tooMany regionCall reading
+unfolding badRun anyBad disordered tooMany regionCall
 six-at =
     record {
       one = record { outcome = refl; six = λ _. record { present = omega arith; breaks = refl }; seven = λ e. absurd (omega arith) };
@@ -79,7 +79,7 @@ record SevenAt : Type 0 where
   not-four : Answers twoPairs (OutOfOrder 4) → ⊥
 
 seven-at : SevenAt
-unfolding badRun anyBad liesAfter disordered tooMany regionCall reading
+unfolding badRun anyBad liesAfter disordered tooMany regionCall
 seven-at =
     record {
       one = record { outcome = refl; six = λ e. absurd (omega arith); seven = λ _. record { later = omega arith; present = omega arith; breaks = refl } };

@@ -10,7 +10,6 @@ abbrev answerFrom : RegionOutcome → RegionAnswer
 answerFrom o = cond (eqb (o .number) 0) (Sums (o .sums)) (cond (eqb (o .number) 6) (BadRun (o .index)) (cond (eqb (o .number) 7) (OutOfOrder (o .index)) TooManyRuns))
 
 told : (a : RegionAnswer) → answerFrom (reading a) ≡ a
-unfolding reading
 told (Sums s) = refl
 told (BadRun i) = refl
 told (OutOfOrder i) = refl

@@ -14,7 +14,7 @@ use Rattle.cells.specs.declared.RegionAnswer.{RegionAnswer}
 use Rattle.cells.specs.declared.RegionAnswer.the-variants.{Sums, BadRun, OutOfOrder, TooManyRuns}
 use Rattle.cells.specs.CellSums.{cellsOf, allCells, plus, sumsOver, regionSums}
 use Rattle.cells.specs.RegionCall.{emptyRun, badRun, anyBad, liesAfter, disordered, tooMany, regionCall, reading, runAt, BreaksSix, BreaksSeven, Answers}
-use Rattle.cells.specs.Scan.{noRuns, answerWith, addRun, SumsWithin, HasRoom}
+use Rattle.cells.specs.private.Scan.{noRuns, answerWith, addRun, SumsWithin, HasRoom}
 use Rattle.cells.proofs.SumLaws.{widen, zeros-within, sums-append, all-within}
 
 -- ---- one run more at the end of a list
@@ -136,7 +136,6 @@ one-more rs r {s} h =
 
 -- There is room for another run.
 pub room : (rs : List Run) {s : Scan} → Stands rs s → length rs < 4096 → HasRoom s
-unfolding reading
 room rs {s} h l = record { runs = omega (arith, h .count); sums = go (s .answer) (h .answer) }
   where
     go : (a : RegionAnswer) → Decided rs a → SumsWithin (2 ^ 42) (reading a .sums)
@@ -156,7 +155,7 @@ unfolding tooMany
 many rs l = lt-ltb _ (length rs) (omega arith)
 
 pub answered : (rs : List Run) {s : Scan} → Stands rs s → length rs ≤ 4096 → Answers rs (s .answer)
-unfolding reading regionCall
+unfolding regionCall
 answered rs {s} h l = go (s .answer) (h .answer)
   where
     go : (a : RegionAnswer) → Decided rs a → Answers rs a
@@ -166,5 +165,5 @@ answered rs {s} h l = go (s .answer) (h .answer)
     go TooManyRuns d = absurd d
 
 pub too-many : (rs : List Run) → 4096 < length rs → Answers rs TooManyRuns
-unfolding reading regionCall
+unfolding regionCall
 too-many rs l = record { outcome = rw (many rs l); six = λ z. absurd (omega arith); seven = λ z. absurd (omega arith) }

@@ -1,3 +1,3 @@
 pub mod CellSums
 pub mod RegionCall
-pub mod Scan
+pub mod private

@@ -60,7 +60,7 @@ regionCall rs i =
 -- ---- the answer
 
 -- The answer in document 01's terms.
-unfoldable pub reading : RegionAnswer → RegionOutcome
+abbrev pub reading : RegionAnswer → RegionOutcome
 reading (Sums s) = record { number = 0; index = 0; sums = s }
 reading (BadRun i) = refused 6 i
 reading (OutOfOrder i) = refused 7 i

@@ -4,8 +4,8 @@ ghost use mathlib.Core.Bool.{not};
 ghost use Prim.Native.Nat.{_≤_, _^_};
 ghost use lib.IntN.{pos};
 ghost use Rattle.cells.specs.CellSums.{plus, sumsOver, cellsOf, indexSum, squareSum};
-ghost use Rattle.cells.specs.RegionCall.{badRun, liesAfter, Answers};
-ghost use Rattle.cells.specs.Scan.{noRuns, answerWith, addRun, InGrid, SumsWithin, HasRoom};
+ghost use Rattle.cells.specs.RegionCall.{badRun, liesAfter, reading, Answers};
+ghost use Rattle.cells.specs.private.Scan.{noRuns, answerWith, addRun, InGrid, SumsWithin, HasRoom};
 
 // As many cells of a row as `length`, from the column `first` on. Laid out as in C, whose callers lend lists of them.
 #[repr(C)]
@@ -21,6 +21,20 @@ pub enum RegionAnswer {
     BadRun(usize),
     OutOfOrder(usize),
     TooManyRuns,
+}
+
+impl RegionAnswer {
+    // The number of the refusal in document 01, 0 where there is none.
+    pub fn number(self) -> u32
+        ensures { λ r. ⌜ r ≡ reading self .number ⌝ }
+    {
+        match self {
+            RegionAnswer::Sums(_) => 0,
+            RegionAnswer::BadRun(_) => 6,
+            RegionAnswer::OutOfOrder(_) => 7,
+            RegionAnswer::TooManyRuns => 8,
+        }
+    }
 }
 
 // What the runs read so far give: their number, the last of them, and the answer if there are no more.

@@ -10,7 +10,6 @@ number-of : {r q : CentroidOutcome} → r ≡ q → r .number ≡ q .number
 number-of e = ap (λ (r : CentroidOutcome). r .number) e
 
 pub reading-one-to-one : (a b : CentroidAnswer) → reading a ≡ reading b → a ≡ b
-unfolding reading
 reading-one-to-one (At x y) (At x′ y′) e = ap₂ At (ap (λ (r : CentroidOutcome). r .x) e) (ap (λ (r : CentroidOutcome). r .y) e)
 reading-one-to-one OutsideLimits OutsideLimits e = refl
 reading-one-to-one NoArea NoArea e = refl

@@ -7,7 +7,7 @@ use Rattle.centroid.specs.declared.CentroidAnswer.the-variants.{At, Outs
 use Rattle.centroid.specs.Centroid.{CentroidOutcome, refused}
 
 -- Each case of the answer, with its number and values. Two answers never read alike (proofs/ReadingLaw).
-unfoldable pub reading : CentroidAnswer → CentroidOutcome
+abbrev pub reading : CentroidAnswer → CentroidOutcome
 reading (At x y) = record { number = 0; x = x; y = y }
 reading OutsideLimits = refused 11
 reading NoArea = refused 27

@@ -20,6 +20,19 @@ pub enum CentroidAnswer {
     NoArea,
 }
 
+impl CentroidAnswer {
+    // The number of the refusal in document 01, 0 where there is none.
+    pub fn number(self) -> u32
+        ensures { λ r. ⌜ r ≡ reading self .number ⌝ }
+    {
+        match self {
+            CentroidAnswer::At(_, _) => 0,
+            CentroidAnswer::OutsideLimits => 11,
+            CentroidAnswer::NoArea => 27,
+        }
+    }
+}
+
 // The limit of a total, by size, and of a cell sum other than A.
 const TOTAL_LIMIT: i64 = 1_000_000_000_000_000_000;
 

@@ -49,7 +49,6 @@ centre-number t = by-tests (exceed totalLimits t) (eqb (natAbs (t .a2)) 0) (cent
     by-tests false false o h = h
 
 region-number : (a : RegionAnswer) → reading a .number ≤ 27
-unfolding reading
 region-number (Sums s) = omega arith
 region-number (BadRun i) = omega arith
 region-number (OutOfOrder i) = omega arith

@@ -21,7 +21,6 @@ few rs number i j l e = by-test (ltb 4096 (length rs)) _ refl (ap (λ (o : Regio
     by-test false other m n = ltb-false 4096 (length rs) m
 
 pub index-within : (rs : List Run) (a : RegionAnswer) → Answers rs a → reading a .index ≤ 4096
-unfolding reading
 index-within rs (Sums s) h = omega arith
 index-within rs (BadRun i) h = omega (arith, h .six refl .present, few rs 6 i i (omega arith) (h .outcome))
 index-within rs (OutOfOrder i) h = omega (arith, h .seven refl .present, few rs 7 i i (omega arith) (h .outcome))

@@ -21,6 +21,19 @@ pub enum OutlineAnswer {
     OutsideLimits,
 }
 
+impl OutlineAnswer {
+    // The number of the refusal in document 01, 0 where there is none.
+    pub fn number(self) -> u32
+        ensures { λ r. ⌜ r ≡ reading self .number ⌝ }
+    {
+        match self {
+            OutlineAnswer::Accepted(_) => 0,
+            OutlineAnswer::WrongLength => 2,
+            OutlineAnswer::OutsideLimits => 1,
+        }
+    }
+}
+
 // The points to the front of the buffer; what lies behind them stays.
 fn copy_points(points: &[i32], buffer: &mut [i32])
     requires { ⌜ length (now points) % 2 ≡ 0 ⌝ }

@@ -4,7 +4,7 @@ ghost use mathlib.Core.Bool.{true, false};
 ghost use Prim.Native.Nat.{_<_, _≤_};
 ghost use Rattle.outline.specs.ListCall.{outside};
 ghost use Rattle.outline.specs.WalkCalls.{extended, closedTotals, impossibleWalk, impossibleSheet, pointCall, endCall};
-ghost use Rattle.outline_calls.specs.WalkAnswers.{pointReading, endReading};
+ghost use Rattle.outline_calls.specs.WalkAnswers.{pointNumber, pointReading, endNumber, endReading};
 use crate::add;
 use crate::edge_between;
 use limits::outside_limits;
@@ -25,6 +25,21 @@ pub enum PointAnswer {
     Full,
 }
 
+impl PointAnswer {
+    // The number of the refusal in document 01, 0 where there is none.
+    pub fn number(self) -> u32
+        ensures { λ r. ⌜ r ≡ pointNumber self ⌝ }
+    {
+        match self {
+            PointAnswer::Accepted => 0,
+            PointAnswer::Impossible => 28,
+            PointAnswer::NotOpen => 21,
+            PointAnswer::OutsideLimits => 1,
+            PointAnswer::Full => 23,
+        }
+    }
+}
+
 pub struct PointReply {
     pub answer: PointAnswer,
     pub walk: Walk,
@@ -37,6 +52,22 @@ pub enum EndAnswer {
     TooFewPoints,
     SheetFull,
     SheetExceeded,
+}
+
+impl EndAnswer {
+    // The number of the refusal in document 01, 0 where there is none.
+    pub fn number(self) -> u32
+        ensures { λ r. ⌜ r ≡ endNumber self ⌝ }
+    {
+        match self {
+            EndAnswer::Accepted(_) => 0,
+            EndAnswer::Impossible => 28,
+            EndAnswer::NotOpen => 21,
+            EndAnswer::TooFewPoints => 24,
+            EndAnswer::SheetFull => 25,
+            EndAnswer::SheetExceeded => 26,
+        }
+    }
 }
 
 pub struct EndReply {

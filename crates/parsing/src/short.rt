@@ -1,7 +1,7 @@
 // A line near the end of a chunk, where fewer bytes are left than `whole_form` looks at, is read from a copy that newlines follow.
 ghost use mathlib.Core.Path.{_≡_};
 ghost use mathlib.Core.Bool.{cond};
-ghost use Prim.Native.Nat.{_+_, _<_, _≤_, _^_, min};
+ghost use Prim.Native.Nat.{_+_, _<_, _≤_, _^_};
 ghost use lib.Dec.{ltb};
 ghost use lib.ListN.{length, drop};
 ghost use Rattle.parsing.specs.Grammar.{formOf};
@@ -9,6 +9,7 @@ ghost use Rattle.parsing.specs.ReadForm.{formed, reading};
 ghost use Rattle.parsing.specs.Parts.{lineFront, copiedOnto};
 use crate::LineForm;
 use crate::form::whole_form;
+use integers::lesser;
 
 // Whether fewer bytes are left from `at` on than the longest form takes with its newline.
 pub(crate) fn few_left(size: usize, at: usize) -> bool
@@ -21,15 +22,6 @@ pub(crate) fn few_left(size: usize, at: usize) -> bool
         return true;
     }
     false
-}
-
-fn lesser(a: usize, b: usize) -> usize
-    ensures { λ r. ⌜ r ≡ min a b ⌝ }
-{
-    if a < b {
-        return a;
-    }
-    b
 }
 
 // If few bytes are left from `at` on, they are copied over the first of `line`; past the end there are none.

@@ -6,15 +6,13 @@ ghost use Rattle.cells.specs.RegionCall.{Answers};
 use cells::RegionAnswer;
 use cells::Run;
 use cells::region_sums;
+use integers::lesser;
 
 // `count`, but no more than the 4,097 runs of an array.
 fn within_array(count: usize) -> usize
     ensures { λ r. ⌜ r ≡ min count 4097 ⌝ }
 {
-    if 4097 < count {
-        return 4097;
-    }
-    count
+    lesser(count, 4097)
 }
 
 // `region_sums` of the first `count` runs of an array, or of all of them if `count` is larger, for callers that hold their runs by value.

@@ -1,7 +1,7 @@
 // The line at the front of what is left of a chunk.
 ghost use mathlib.Core.Path.{_≡_};
 ghost use mathlib.Core.Bool.{not, _&&_};
-ghost use Prim.Native.Nat.{_+_, _≤_, _<_, min};
+ghost use Prim.Native.Nat.{_+_, _≤_, _<_};
 ghost use lib.Dec.{ltb};
 ghost use lib.ListN.{length, drop};
 ghost use Rattle.outline.specs.WalkCalls.{endCall};
@@ -12,6 +12,7 @@ ghost use Rattle.stream.specs.Feeding.{stepped, Steps, Counts};
 use crate::Stepped;
 use crate::step::end_reading;
 use crate::step::halt;
+use integers::lesser;
 use lines::ask;
 use lines::end_line;
 use lines::tell;
@@ -28,15 +29,6 @@ fn past_limit(state: State, size: usize) -> bool
         return true;
     }
     33_000_000 - taken < size as u64
-}
-
-fn least(a: usize, b: usize) -> usize
-    ensures { λ r. ⌜ r ≡ min a b ⌝ }
-{
-    if b < a {
-        return b;
-    }
-    a
 }
 
 // Part of a line, of which `size` bytes are here: left where it may yet have a form, else only its size is kept.
@@ -160,7 +152,7 @@ pub(crate) fn line_step(
     let a = ask(w, chunk, at);
     let walk = a.walk;
     let left = chunk.len() - at;
-    let size = least(a.size, left);
+    let size = lesser(a.size, left);
     if past_limit(state, size) {
         return end_reading(state, sheet, chunk.len(), out, filled);
     }

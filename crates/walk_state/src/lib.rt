@@ -3,7 +3,7 @@ mod handed_in;
 
 ghost use mathlib.Core.Path.{_≡_};
 ghost use Rattle.outline.specs.WalkCalls.{closed, newSheet, beginCall, abandonCall};
-ghost use Rattle.walk_state.specs.Answers.{beginReading, abandonReading};
+ghost use Rattle.walk_state.specs.Answers.{beginNumber, beginReading, abandonNumber, abandonReading};
 pub use handed_in::impossible_sheet;
 pub use handed_in::impossible_walk;
 use outline::ORIGIN;
@@ -17,6 +17,19 @@ pub enum BeginAnswer {
     AlreadyOpen,
 }
 
+impl BeginAnswer {
+    // The number of the refusal in document 01, 0 where there is none.
+    pub fn number(self) -> u32
+        ensures { λ r. ⌜ r ≡ beginNumber self ⌝ }
+    {
+        match self {
+            BeginAnswer::Accepted => 0,
+            BeginAnswer::Impossible => 28,
+            BeginAnswer::AlreadyOpen => 22,
+        }
+    }
+}
+
 pub struct BeginReply {
     pub answer: BeginAnswer,
     pub walk: Walk,
@@ -26,6 +39,19 @@ pub enum AbandonAnswer {
     Accepted,
     Impossible,
     NotOpen,
+}
+
+impl AbandonAnswer {
+    // The number of the refusal in document 01, 0 where there is none.
+    pub fn number(self) -> u32
+        ensures { λ r. ⌜ r ≡ abandonNumber self ⌝ }
+    {
+        match self {
+            AbandonAnswer::Accepted => 0,
+            AbandonAnswer::Impossible => 28,
+            AbandonAnswer::NotOpen => 21,
+        }
+    }
 }
 
 pub struct AbandonReply {

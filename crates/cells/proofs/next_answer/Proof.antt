@@ -3,7 +3,7 @@ use mathlib.Core.Path.{sym, subst}
 use Prim.Native.Nat.{_^_}
 use borrow.Author.Needs.{needs}
 use Rattle.cells.specs.RegionCall.{reading}
-use Rattle.cells.specs.Scan.{answerWith, SumsWithin}
+use Rattle.cells.specs.private.Scan.{answerWith, SumsWithin}
 use Rattle.integers.proofs.Flags.{tells}
 use Rattle.cells.proofs.SumLaws.{in-grid, run-within}
 use Rattle.cells.proofs.next_answer.Statement.{statement}
@@ -30,7 +30,6 @@ run-sums-requires : tie.Need-run-sums-requires
 run-sums-requires c κs = in-grid _ (tells (c .before .before .before .bad-run .ensures) (c .before .before .if1 .left))
 
 add-sums-requires : tie.Need-add-sums-requires
-unfolding reading
 add-sums-requires c κs =
     let start = c .before .before .before .before .before .before .before .before .before in
     (rw (c .before .before .before .before .before .before .answer .given .1) at (start .pre .sums), subst (SumsWithin (2 ^ 30)) (sym (c .run-sums .ensures)) (run-within (start .args .run) (in-grid _ (tells (c .before .before .before .before .bad-run .ensures) (c .before .before .before .if1 .left)))))

@@ -46,7 +46,7 @@ use denote.Triple.Table.{entered, cited}
 use denote.Triple.Walked.{says, Stays, stay-dropped, walkOf, AllGo, goes-dropped, Walks, ends-at, walked, walk-meets}
 use denote.Exit.{yes}
 use Rattle.cells.specs.RegionCall.{emptyRun, Answers}
-use Rattle.cells.specs.Scan.{noRuns, addRun}
+use Rattle.cells.specs.private.Scan.{noRuns, addRun}
 use Rattle.cells.specs.declared.Run.{Run}
 use Rattle.cells.specs.declared.Scan.{Scan}
 use Rattle.cells.specs.declared.RegionAnswer.{RegionAnswer}

@@ -21,7 +21,6 @@ nearest-requires-2 : tie.Need-nearest-requires-2
 nearest-requires-2 c κs = search needs
 
 returns : tie.Need-returns
-unfolding reading
 returns c =
     let s = c .before .before in
     let x = quotient (s .fits .nx) (s .fits .d) (record { sfits = c .before .nearest .ok }) (c .before .nearest .ensures) in

@@ -80,11 +80,11 @@ outside-limits-requires : tie.Need-outside-limits-requires
 outside-limits-requires c κs = search needs
 
 returns : tie.Need-returns
-unfolding outlineCentroidCall reading
+unfolding outlineCentroidCall
 returns c = rw (sym (c .before .outside-limits .ensures) ∙ c .if1 .taken)
 
 returns-2 : tie.Need-returns-2
-unfolding outlineCentroidCall reading
+unfolding outlineCentroidCall
 returns-2 c =
     let i = c .before .before .before in
     rw (inside i, zero-size (totals i .a2) (a2-held (i .before .before)) (c .if2 .taken))

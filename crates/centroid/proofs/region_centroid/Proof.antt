@@ -43,11 +43,11 @@ sums-outside-requires : tie.Need-sums-outside-requires
 sums-outside-requires c κs = search needs
 
 returns : tie.Need-returns
-unfolding regionCentroidCall reading
+unfolding regionCentroidCall
 returns c = rw (sym (c .before .sums-outside .ensures) ∙ c .if1 .taken)
 
 returns-2 : tie.Need-returns-2
-unfolding regionCentroidCall reading
+unfolding regionCentroidCall
 returns-2 c =
     let i = c .before .before .before in
     rw (inside i, zero-size (sums i .count) (count-held (i .before .before)) (c .if2 .taken))

@@ -50,21 +50,18 @@ module _ (c : tie.After-known-told) where
   y-held = toZ-ofZ w64 y (record { sfits = c .known-told .given .1 .0 .1 })
 
 returns : tie.Need-returns
-unfolding reading
 returns c = by-case (λ o. centreReply o (c .before .before .before .before .before .before .before .args .out .now)) reading (c .before .before .before .before .answer .given .1) (c .before .before .before .before .before .before .outline-centroid .ensures) (c .before .put-centre .ensures ∙ λ i. centreReply (record { number = 0; x = x-held (c .before .before .before) i; y = y-held (c .before .before .before) i }) (c .before .before .before .before .before .before .before .args .out .now))
 
 same-length-2 : tie.Need-same-length-2
 same-length-2 c = search needs
 
 returns-2 : tie.Need-returns-2
-unfolding reading
 returns-2 c = by-case (λ o. centreReply o (c .before .before .before .before .before .before .args .out .now)) reading (c .before .before .before .enum-told .given .1) (c .before .before .before .before .before .outline-centroid .ensures) (c .before .put-centre2 .ensures)
 
 same-length-3 : tie.Need-same-length-3
 same-length-3 c = search needs
 
 returns-3 : tie.Need-returns-3
-unfolding reading
 returns-3 c = by-case (λ o. centreReply o (c .before .before .before .before .before .before .args .out .now)) reading (c .before .before .before .enum-told2 .given .1) (c .before .before .before .before .before .outline-centroid .ensures) (c .before .put-centre3 .ensures)
 
 pub put-centroid-spec : {M : Type 1} → statement M

@@ -32,7 +32,6 @@ enum-known-answer-2 : tie.Need-enum-known-answer-2
 enum-known-answer-2 c = search needs
 
 within-6 : (c : tie.After-known-told2) → c .before .answer2 .given .0 .0 ≤ 4096
-unfolding reading
 within-6 c = rw (c .before .answer2 .given .1) at (c .before .before .before .pre)
 
 cast-put-sums : tie.Need-cast-put-sums
@@ -45,7 +44,6 @@ enum-known-answer-3 : tie.Need-enum-known-answer-3
 enum-known-answer-3 c = search needs
 
 within-7 : (c : tie.After-known-told3) → c .before .answer3 .given .0 .0 ≤ 4096
-unfolding reading
 within-7 c = rw (c .before .answer3 .given .1) at (c .before .before .before .pre)
 
 cast-put-sums-2 : tie.Need-cast-put-sums-2
@@ -64,28 +62,24 @@ same-length : tie.Need-same-length
 same-length c = search needs
 
 returns : tie.Need-returns
-unfolding reading
 returns c = by-case (λ o. regionReply o (c .before .before .before .before .before .before .args .out .now)) reading (c .before .before .before .before .answer .given .1) refl (c .before .put-sums .ensures)
 
 same-length-2 : tie.Need-same-length-2
 same-length-2 c = search needs
 
 returns-2 : tie.Need-returns-2
-unfolding reading
 returns-2 c = by-case (λ o. regionReply o (c .before .before .before .before .before .before .args .out .now)) reading (c .before .before .before .before .answer2 .given .1) refl (c .before .put-sums2 .ensures ∙ told 6 _ _ (within-6 (c .before .before .before)))
 
 same-length-3 : tie.Need-same-length-3
 same-length-3 c = search needs
 
 returns-3 : tie.Need-returns-3
-unfolding reading
 returns-3 c = by-case (λ o. regionReply o (c .before .before .before .before .before .before .args .out .now)) reading (c .before .before .before .before .answer3 .given .1) refl (c .before .put-sums3 .ensures ∙ told 7 _ _ (within-7 (c .before .before .before)))
 
 same-length-4 : tie.Need-same-length-4
 same-length-4 c = search needs
 
 returns-4 : tie.Need-returns-4
-unfolding reading
 returns-4 c = by-case (λ o. regionReply o (c .before .before .before .before .before .args .out .now)) reading (c .before .before .before .enum-told .given .1) refl (c .before .put-sums4 .ensures)
 
 pub put-region-spec : {M : Type 1} → statement M

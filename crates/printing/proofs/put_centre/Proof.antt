@@ -25,7 +25,7 @@ use Rattle.printing.proofs.put_centre.Tie as tie
 
 -- The answer is not a centre.
 no-centre : (a : CentroidAnswer) → OneOf (1 ∷ 2 ∷ []) (tagOf the-type a) → centreText (reading a) ≡ 9 ∷ 45 ∷ 9 ∷ 45 ∷ []
-unfolding reading centreText
+unfolding centreText
 no-centre (At x y) k = absurd (⊎-elim (λ e. omega arith) (λ e. omega arith) k)
 no-centre OutsideLimits k = refl
 no-centre NoArea k = refl
@@ -48,7 +48,7 @@ module _ (c : tie.After-known-told) where
   y-held = toZ-ofZ w64 y (record { sfits = c .known-told .given .1 .0 .1 })
 
   found : centreText (outlineCentroidCall (c .before .before .before .before .before .args .t)) ≡ field x ++ field y
-  unfolding reading centreText
+  unfolding centreText
   found = ap centreText (sym (c .before .before .before .outline-centroid .ensures) ∙ ap reading (c .before .x .given .1))
 
 x-written : (c : tie.After-put-field) → (let a = c .before .before in let s = a .before .before .before .before .before in Written (s .args .out .now) (s .args .at) (field (x a)) (c .put-field .last .0) (c .put-field .result))

@@ -31,7 +31,7 @@ use denote.Triple.Clauses.{ensured, lasts}
 use denote.Triple.Spec.{tripleOf}
 use denote.Triple.Walked.{says}
 use Rattle.cells.specs.RegionCall.{emptyRun, Answers}
-use Rattle.cells.specs.Scan.{noRuns, addRun, HasRoom}
+use Rattle.cells.specs.private.Scan.{noRuns, addRun, HasRoom}
 use Rattle.cells.specs.declared.Run.{Run}
 use Rattle.cells.specs.declared.Scan.{Scan}
 use Rattle.cells.specs.declared.RegionAnswer.the-variants.{TooManyRuns}

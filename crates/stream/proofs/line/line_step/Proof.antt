@@ -19,8 +19,8 @@ ask-requires c κs = search needs
 sub-left : tie.Need-sub-left
 sub-left c = search needs
 
-least-requires : tie.Need-least-requires
-least-requires c κs = search needs
+lesser-requires : tie.Need-lesser-requires
+lesser-requires c κs = search needs
 
 past-limit-requires : tie.Need-past-limit-requires
 past-limit-requires c κs = search needs
@@ -32,8 +32,8 @@ same-length : tie.Need-same-length
 same-length c = search needs
 
 -- What is found of the line.
-found : (c : tie.After-least) → (let s = c .before .before .before .before .before .before in Found (s .args .state) (s .args .chunk .now) (s .args .at) (c .before .before .ask .result) (c .least .result))
-found c = let s = c .before .before .before .before .before .before in record { few = s .pre .0; place = s .pre .1 .0; asks = c .before .before .ask .ensures; bytes-here = c .least .ensures }
+found : (c : tie.After-lesser) → (let s = c .before .before .before .before .before .before in Found (s .args .state) (s .args .chunk .now) (s .args .at) (c .before .before .ask .result) (c .lesser .result))
+found c = let s = c .before .before .before .before .before .before in record { few = s .pre .0; place = s .pre .1 .0; asks = c .before .before .ask .ensures; bytes-here = c .lesser .ensures }
 
 returns : tie.Need-returns
 returns c =
@@ -45,11 +45,11 @@ unended-requires : tie.Need-unended-requires
 unended-requires c κs = search needs
 
 -- Byte 33,000,001 is not reached,
-near : (c : tie.Else1) → (let s = c .before .before .before .before .before .before .before .before in ltb 33_000_000 (s .args .state .bytes + s .args .state .held + c .before .before .least .result) ≡ false)
+near : (c : tie.Else1) → (let s = c .before .before .before .before .before .before .before .before in ltb 33_000_000 (s .args .state .bytes + s .args .state .held + c .before .before .lesser .result) ≡ false)
 near c = tells (c .before .past-limit .ensures) (c .if1 .left)
 
 -- and the counters have room.
-room : (c : tie.Else1) → (let s = c .before .before .before .before .before .before .before .before in Counts (s .args .state) (s .args .at) (c .before .before .least .result))
+room : (c : tie.Else1) → (let s = c .before .before .before .before .before .before .before .before in Counts (s .args .state) (s .args .at) (c .before .before .lesser .result))
 room c = let s = c .before .before .before .before .before .before .before .before in counts (s .args .last) (s .args .sheet) (found (c .before .before)) (near c) (omega (arith, in-chunk (s .args .last) (s .args .sheet) (found (c .before .before))))
 
 part-of-line-requires : tie.Need-part-of-line-requires
@@ -58,7 +58,7 @@ part-of-line-requires c κs = room (c .before .before)
 returns-2 : tie.Need-returns-2
 returns-2 c =
     let s = c .before .before .before .before .before .before .before .before .before .before .before in
-    same-step (goes-partly (s .args .last) (s .args .sheet) (found (c .before .before .before .before .before)) (near (c .before .before .before)) (tells (c .before .before .unended .ensures) (c .before .if2 .taken))) (partly (s .args .state) (s .args .sheet) (c .before .before .before .before .before .least .result) (c .part-of-line .ensures))
+    same-step (goes-partly (s .args .last) (s .args .sheet) (found (c .before .before .before .before .before)) (near (c .before .before .before)) (tells (c .before .before .unended .ensures) (c .before .if2 .taken))) (partly (s .args .state) (s .args .sheet) (c .before .before .before .before .before .lesser .result) (c .part-of-line .ensures))
 
 told-line-requires : tie.Need-told-line-requires
 told-line-requires c κs = (room (c .before .before .before .before .before), c .before .before .before .before .before .before .before .before .before .before .before .before .before .pre .1 .1)
@@ -99,7 +99,7 @@ line-step-spec =
     (tie.spec
     ask-requires
     sub-left
-    least-requires
+    lesser-requires
     past-limit-requires
     end-reading-requires
     same-length

@@ -26,19 +26,15 @@ refused-region-requires-3 : tie.Need-refused-region-requires-3
 refused-region-requires-3 c κs = search needs
 
 returns : tie.Need-returns
-unfolding reading
 returns c = rw (c .before .answer .given .1)
 
 returns-2 : tie.Need-returns-2
-unfolding reading
 returns-2 c = rw (c .before .before .answer2 .given .1) (c .refused-region .ensures)
 
 returns-3 : tie.Need-returns-3
-unfolding reading
 returns-3 c = rw (c .before .before .answer3 .given .1) (c .refused-region2 .ensures)
 
 returns-4 : tie.Need-returns-4
-unfolding reading
 returns-4 c = rw (c .before .enum-told .given .1) (c .refused-region3 .ensures)
 
 pub region-figures-spec : {M : Type 1} → statement M
