@@ -7,28 +7,32 @@ In NUMBERS.md every figure must be one that is recomputed:
   comment `figures:` names, of the last block; before the first such comment under a heading it is a general formula,
   and is tried on every line of the page and on made-up outlines and regions;
 - a table after a comment `terms`, `map`, `edges` or `loops`; a block `runs` or `map`.
-A digit anywhere else is an error. README.md: its example, crates, limits and refusals. ARCHITECTURE.md: the picture
-of the layers has every crate, above all that it rests on. CLAIMS.md: the lines of definitions. The pictures are made
-again and compared.
+A digit anywhere else is an error. README.md: its example, its limits and its command for other units. REFUSALS.md: the
+numbers. ARCHITECTURE.md: every crate, above all that it rests on. CLAIMS*.md: see claims.py. The pictures are made again
+and compared.
 """
 import argparse
 import re
+import subprocess
 import sys
+from fractions import Fraction
 from pathlib import Path
 
 sys.dont_write_bytecode = True
 DOCS = Path(__file__).resolve().parent
 ROOT = DOCS.parent
 sys.path.insert(0, str(ROOT / "second"))
+import claims  # noqa: E402
 import figures  # noqa: E402
 import moves  # noqa: E402
 import pictures  # noqa: E402
 import text  # noqa: E402
 from page import Page, expect, wrong  # noqa: E402
 
-REFUSALS = [*range(1, 12), *range(21, 29)]
+PRINTED_REFUSALS = [1, 9, 10, *range(21, 27)]
+OTHER_REFUSALS = [*range(2, 9), 11, 27, 28]
 LIMITS = {
-    "a coordinate, in decimetres": f"-{figures.COORDINATE_LIMIT:,} to {figures.COORDINATE_LIMIT:,}",
+    "a coordinate": f"-{figures.COORDINATE_LIMIT:,} to {figures.COORDINATE_LIMIT:,} decimetres: {figures.COORDINATE_LIMIT // 10} m from the peg, each way",
     "points of an outline": f"{figures.LEAST_POINTS} to {figures.MOST_POINTS:,}",
     "outlines of a sheet": f"at most {figures.MOST_OUTLINES}",
     "each total of a sheet": "-10^18 to 10^18" if figures.TOTAL_LIMIT == 10 ** 18 else "",
@@ -61,46 +65,56 @@ def table_under(path, heading):
 
 
 def check_readme(plots):
-    """The example; the crates, the limits and the refusals, each once and no other; links that lead somewhere."""
+    """The example; the limits, each once and no other; the command for other units."""
     path = ROOT / "README.md"
     page = Page(path, plots)
     for number, line in enumerate(page.lines):
         for span in re.findall(r"`([^`]* = [^`]*)`", line):
             page.relation(number, span, page.blocks[min(page.blocks)]["O 1"])
-    crates = [row[0].strip("`") for row in table_under(path, "Crates")]
-    expect(sorted(crates) == sorted(listed_crates()), "README.md", f"the table of crates has {crates}")
     limits = {row[0]: row[1] for row in table_under(path, "Limits")}
     expect(limits == LIMITS, "README.md", f"the limits are {LIMITS}")
-    numbers = [int(row[0]) for row in table_under(path, "Refusals")]
-    expect(numbers == REFUSALS, "README.md", f"the table of refusals has {numbers}")
+    check_units(re.search(r"```sh units\n(.*?)```", path.read_text(), re.DOTALL)[1])
+
+
+def check_units(command):
+    """The README's command on every centimetre within the limits: to the nearest decimetre, halves up; any other line stays."""
+    most = 10 * figures.COORDINATE_LIMIT
+    given = [f"{'-' * (n < 0)}{abs(n) // 100}.{abs(n) % 100:02}" for n in range(-most, most + 1)]
+    wanted = [f"P\t{(Fraction(n) / 10 + Fraction(1, 2)).__floor__()}\t7" for n in range(-most, most + 1)]
+    lines = ["B", *(f"{metres}\t0.74" for metres in given), "east north", "", "E"]
+    command = command.replace("< METRES > FILE", "")
+    for ending in ("\n", "\r\n"):
+        printed = subprocess.run(["sh", "-c", command], input=ending.join(lines).encode(), stdout=subprocess.PIPE, check=True).stdout
+        expect(printed.decode().split("\n") == ["B", *wanted, "east north", "", "E", ""], "README.md", "the command for other units gives other lines")
+
+
+def check_refusals():
+    """Every refusal once: first those that the program prints, then the others."""
+    for heading, wanted in (("Refusals that `plots` prints", PRINTED_REFUSALS), ("Refusals of other calls", OTHER_REFUSALS)):
+        numbers = [int(row[0]) for row in table_under(DOCS / "REFUSALS.md", heading)]
+        expect(numbers == wanted, "docs/REFUSALS.md", f"the table under {heading} has {numbers}")
 
 
 def check_links(path):
-    """Each link to a file of the repository leads to one."""
-    for target in re.findall(r"\]\(([^)#:]+)\)", path.read_text()):
+    """Each link to a file of the repository leads to one, and each label has its link."""
+    page = path.read_text()
+    label = re.compile(r"(?m)^\[([^\]]+)\]: (\S+)$")
+    labels = dict(label.findall(page))
+    for target in [*re.findall(r"\]\(([^)#:]+)[^):]*\)", page), *labels.values()]:
         expect((path.parent / target).exists(), path.relative_to(ROOT), f"a link to {target}, which is not there")
+    used = set(re.findall(r"\[([\w.]+(?:/[\w.]+)+)\](?!\()", label.sub("", page)))
+    expect(used == set(labels), path.relative_to(ROOT), f"labels without a link, or links without a label: {used ^ set(labels)}")
 
 
-def check_layers():
-    """The picture of the layers: every crate once, in a higher row than all that it rests on."""
-    picture = re.search(r"```layers\n(.*?)```", (DOCS / "ARCHITECTURE.md").read_text(), re.DOTALL)[1]
-    row_of = [(name, row) for row, line in enumerate(picture.splitlines()) for name in re.findall(r"\[(\w+)\]", line)]
+def check_crates():
+    """The table of crates: every crate once, above all that it rests on."""
+    rows = [row[1].strip("`") for row in table_under(DOCS / "ARCHITECTURE.md", "The crates")]
     crates = listed_crates()
-    expect(sorted(name for name, _ in row_of) == sorted(crates), "docs/ARCHITECTURE.md", "the picture and crates.txt have different crates")
-    rows = dict(row_of)
+    expect(sorted(rows) == sorted(crates), "docs/ARCHITECTURE.md", f"the table and crates.txt differ: {sorted(set(rows) ^ set(crates))}")
     for name, others in crates.items():
         for other in others:
-            expect(rows.get(name, -1) < rows.get(other, -1), "docs/ARCHITECTURE.md", f"{name} rests on {other} and is not drawn above it")
-
-
-def check_definitions():
-    """CLAIMS.md: how many lines of definitions each crate has that has any."""
-    said = (DOCS / "CLAIMS.md").read_text().partition("In lines of `specs/*.antt`")[2].partition("\n- ")[0]
-    stated = {name: int(lines) for name, lines in re.findall(r"`(\w+)` (\d+)", said)}
-    lines = {}
-    for path in sorted((ROOT / "crates").glob("*/specs/*.antt")):
-        lines[path.parts[-3]] = lines.get(path.parts[-3], 0) + len(path.read_text().splitlines())
-    expect(stated == lines, "docs/CLAIMS.md", f"the lines of definitions are {lines}")
+            if {name, other} <= set(rows):
+                expect(rows.index(name) < rows.index(other), "docs/ARCHITECTURE.md", f"{name} rests on {other} and does not stand above it")
 
 
 def check_pictures():
@@ -116,10 +130,11 @@ def main():
     plots = parser.parse_args().plots.resolve()
     Page(DOCS / "NUMBERS.md", plots).check()
     check_readme(plots)
-    check_layers()
-    check_definitions()
+    check_refusals()
+    check_crates()
+    claims.check()
     check_pictures()
-    for path in (ROOT / "README.md", DOCS / "NUMBERS.md", DOCS / "ARCHITECTURE.md"):
+    for path in (ROOT / "README.md", *sorted(DOCS.glob("*.md"))):
         check_links(path)
     for each in wrong:
         print(each, file=sys.stderr)
