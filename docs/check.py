@@ -15,7 +15,6 @@ import argparse
 import re
 import subprocess
 import sys
-from fractions import Fraction
 from pathlib import Path
 
 sys.dont_write_bytecode = True
@@ -79,9 +78,9 @@ def check_readme(plots):
 def check_units(command):
     """The README's command on every centimetre within the limits: to the nearest decimetre, halves up; any other line stays."""
     most = 10 * figures.COORDINATE_LIMIT
-    given = [f"{'-' * (n < 0)}{abs(n) // 100}.{abs(n) % 100:02}" for n in range(-most, most + 1)]
-    wanted = [f"P\t{(Fraction(n) / 10 + Fraction(1, 2)).__floor__()}\t7" for n in range(-most, most + 1)]
-    lines = ["B", *(f"{metres}\t0.74" for metres in given), "east north", "", "E"]
+    given = [f"{'-' * (n < 0)}{abs(n) // 100}.{abs(n) % 100:02}\t0.74" for n in range(-most, most + 1)]
+    wanted = [f"P\t{(n + 5) // 10}\t7" for n in range(-most, most + 1)]
+    lines = ["B", *given, "east north", "", "E"]
     command = command.replace("< METRES > FILE", "")
     for ending in ("\n", "\r\n"):
         printed = subprocess.run(["sh", "-c", command], input=ending.join(lines).encode(), stdout=subprocess.PIPE, check=True).stdout
@@ -95,13 +94,21 @@ def check_refusals():
         expect(numbers == wanted, "docs/REFUSALS.md", f"the table under {heading} has {numbers}")
 
 
+def anchors(path):
+    """What a link can name of a page: its headings in small letters, with hyphens for spaces."""
+    return {re.sub(r"[^\w -]", "", line.lstrip("# ").lower()).replace(" ", "-") for line in path.read_text().splitlines() if line.startswith("#")}
+
+
 def check_links(path):
-    """Each link to a file of the repository leads to one, and each label has its link."""
+    """Each link to a file of the repository leads to one, and to a heading of it; each label has its link."""
     page = path.read_text()
     label = re.compile(r"(?m)^\[([^\]]+)\]: (\S+)$")
     labels = dict(label.findall(page))
     for target in [*re.findall(r"\]\(([^)#:]+)[^):]*\)", page), *labels.values()]:
         expect((path.parent / target).exists(), path.relative_to(ROOT), f"a link to {target}, which is not there")
+    for target, anchor in re.findall(r"\]\(([^)#:]*)#([^)]+)\)", page):
+        other = path.parent / target if target else path
+        expect(other.exists() and anchor in anchors(other), path.relative_to(ROOT), f"a link to {target}#{anchor}, which is not there")
     used = set(re.findall(r"\[([\w.]+(?:/[\w.]+)+)\](?!\()", label.sub("", page)))
     expect(used == set(labels), path.relative_to(ROOT), f"labels without a link, or links without a label: {used ^ set(labels)}")
 
