@@ -37,7 +37,7 @@ static int outside(int32_t v) { return v < -COORDINATE_LIMIT || v > COORDINATE_L
 
 static int exceeds(int64_t v, int64_t bound) { return v < -bound || v > bound; }
 
-static int unsound_walk(const struct walk *w) {
+static int impossible_walk(const struct walk *w) {
     if (!TEST_28 || !w->is_open) return 0;
     if (w->count > MOST_POINTS) return 1;
     if (w->count > 0 && (outside(w->first_x) || outside(w->first_y) || outside(w->last_x) || outside(w->last_y))) return 1;
@@ -52,17 +52,17 @@ static int beyond_sheet(const struct totals *t) {
            exceeds(t->xy24, SHEET_LIMIT) || exceeds(t->yy12, SHEET_LIMIT);
 }
 
-static int unsound_sheet(const struct sheet *s) { return TEST_28 && (s->count > MOST_OUTLINES || beyond_sheet(&s->totals)); }
+static int impossible_sheet(const struct sheet *s) { return TEST_28 && (s->count > MOST_OUTLINES || beyond_sheet(&s->totals)); }
 
 static uint32_t begin(struct walk *w) {
-    if (unsound_walk(w)) return 28;
+    if (impossible_walk(w)) return 28;
     if (w->is_open) return 22;
     *w = (struct walk){.is_open = 1};
     return 0;
 }
 
 static uint32_t point(struct walk *w, int32_t x, int32_t y) {
-    if (unsound_walk(w)) return 28;
+    if (impossible_walk(w)) return 28;
     if (!w->is_open) return 21;
     if (outside(x) || outside(y)) return 1;
     if (w->count >= MOST_POINTS) return 23;
@@ -79,14 +79,14 @@ static uint32_t point(struct walk *w, int32_t x, int32_t y) {
 }
 
 static uint32_t abandon(struct walk *w) {
-    if (unsound_walk(w)) return 28;
+    if (impossible_walk(w)) return 28;
     if (!w->is_open) return 21;
     *w = (struct walk){0};
     return 0;
 }
 
 static uint32_t end(struct walk *w, struct sheet *s, struct totals *t) {
-    if (unsound_walk(w) || unsound_sheet(s)) return 28;
+    if (impossible_walk(w) || impossible_sheet(s)) return 28;
     if (!w->is_open) return 21;
     if (w->count < 3) return 24;
     if (s->count >= MOST_OUTLINES) return 25;

@@ -100,14 +100,14 @@ fn outside(v: i32) -> bool {
 
 impl Sheet {
     /// Refusal 28 for a sheet.
-    fn unsound(&self) -> bool {
+    fn impossible(&self) -> bool {
         self.count > MOST_OUTLINES || self.totals.exceed([SHEET_LIMIT; 6])
     }
 }
 
 impl Walk {
     /// Refusal 28, which document 01 has each call test first.
-    fn unsound(&self) -> bool {
+    fn impossible(&self) -> bool {
         if !self.is_open {
             return false;
         }
@@ -123,7 +123,7 @@ impl Walk {
     }
 
     pub fn begin(&mut self) -> Result<(), u32> {
-        if self.unsound() {
+        if self.impossible() {
             return Err(28);
         }
         if self.is_open {
@@ -137,7 +137,7 @@ impl Walk {
     }
 
     pub fn point(&mut self, p: Position) -> Result<(), u32> {
-        if self.unsound() {
+        if self.impossible() {
             return Err(28);
         }
         if !self.is_open {
@@ -160,7 +160,7 @@ impl Walk {
     }
 
     pub fn abandon(&mut self) -> Result<(), u32> {
-        if self.unsound() {
+        if self.impossible() {
             return Err(28);
         }
         if !self.is_open {
@@ -173,7 +173,7 @@ impl Walk {
     /// Apart from the loop over lines: there the compiler would reckon the closing edge with every point.
     #[inline(never)]
     pub fn end(&mut self, sheet: &mut Sheet) -> Result<Totals, u32> {
-        if self.unsound() || sheet.unsound() {
+        if self.impossible() || sheet.impossible() {
             return Err(28);
         }
         if !self.is_open {
