@@ -1,15 +1,17 @@
 """Recomputes what the pages say: python3 docs/check.py [--plots PROGRAM]. Prints what is wrong and exits 1.
 
-In NUMBERS.md every figure must be one that is recomputed:
+In NUMBERS.md and CASES.md every figure must be one that is recomputed:
 - a fenced block `input` (with a file's name, the file's own text) and the block `output` after it: what the program
   and the second program print;
-- a code span with =, ≤ or <: its sides, by exact fractions. Its names stand for the figures of the line that the last
-  comment `figures:` names, of the last block; before the first such comment under a heading it is a general formula,
-  and is tried on every line of the page and on made-up outlines and regions;
-- a table after a comment `terms`, `map`, `edges` or `loops`; a block `runs` or `map`.
-A digit anywhere else is an error. README.md: its example, its limits and its command for other units. REFUSALS.md: the
-numbers. ARCHITECTURE.md: every crate, above all that it rests on. CLAIMS*.md: see claims.py. The pictures are made again
-and compared.
+- a code span with =, ≤, < or ≈: its sides, by exact fractions. A decimal after = is exact; one after ≈ is rounded to
+  the places that it has. Its names stand for the figures of the line that the last comment `figures:` names, of the
+  last block or of an example file, and it does not end in a fraction; before the first such comment under a heading
+  it is a general formula, and is tried on every line of the page and on made-up outlines and regions;
+- a table after a comment `terms`, `map`, `edges`, `loops`, `test` or `trial`; a block `runs` or `map`.
+A digit anywhere else is an error. A comment `crosses:`, `plain:` or `same:` says what the outlines of the lines that it
+names are. README.md: its example, its limits and its command for other units. REFUSALS.md: the numbers.
+ARCHITECTURE.md: every crate, above all that it rests on. CLAIMS*.md: see claims.py. The pictures are made again and
+compared.
 """
 import argparse
 import re
@@ -135,7 +137,8 @@ def main():
     parser = argparse.ArgumentParser(description="Recomputes what the pages say.")
     parser.add_argument("--plots", type=Path, default=ROOT / "target" / "bin" / "plots", help="the program to run")
     plots = parser.parse_args().plots.resolve()
-    Page(DOCS / "NUMBERS.md", plots).check()
+    for name in ("NUMBERS.md", "CASES.md"):
+        Page(DOCS / name, plots).check()
     check_readme(plots)
     check_refusals()
     check_crates()

@@ -12,10 +12,11 @@ from fractions import Fraction
 TOTALS = ("A2", "X6", "Y6", "XX12", "XY24", "YY12")
 INTEGRANDS = {"area": lambda x, y: 1, "∫x": lambda x, y: x, "∫y": lambda x, y: y,
               "∫x²": lambda x, y: x * x, "∫xy": lambda x, y: x * y, "∫y²": lambda x, y: y * y}
+PRINTED = ("points", *TOTALS, "centre x", "centre y")
 METRES = {"area": " in m²", "∫x": " in m³", "∫y": " in m³", "∫x²": " in m⁴", "∫xy": " in m⁴", "∫y²": " in m⁴"}
 CENTRAL = {"Mxx": "∫x²", "Mxy": "∫xy", "Myy": "∫y²"}
 SUMS = {"A": "area", "Σx": "∫x", "Σy": "∫y", "Σx²": "∫x²", "Σxy": "∫xy", "Σy²": "∫y²"}
-NAMES = (*TOTALS, *INTEGRANDS, *(name + unit for name, unit in METRES.items()), *CENTRAL,
+NAMES = (*TOTALS, *INTEGRANDS, *(name + unit for name, unit in METRES.items()), "area in ha", *CENTRAL,
          *(name + " in m⁴" for name in CENTRAL), *SUMS, "outline", "outlines", "points", "exact x", "exact y",
          "centre x", "centre y", "c", "x", "y", "p", "q", "a", "b", "g", "h", "e", "f", "d")
 
@@ -38,8 +39,10 @@ def integral(integrand, outlines):
 def outline_figures(outlines):
     """By name, every figure that is defined by an integral; the centre's where the area is not 0."""
     figures = {name: integral(f, outlines) for name, f in INTEGRANDS.items()}
-    in_metres = [[(Fraction(x, 10), Fraction(y, 10)) for x, y in points] for points in outlines]
+    in_metres, in_hectometres = ([[(Fraction(x, unit), Fraction(y, unit)) for x, y in points] for points in outlines]
+                                 for unit in (10, 1000))
     figures |= {name + METRES[name]: integral(f, in_metres) for name, f in INTEGRANDS.items()}
+    figures["area in ha"] = integral(INTEGRANDS["area"], in_hectometres)
     if figures["area"] != 0:
         x, y = (figures[name] / figures["area"] for name in ("∫x", "∫y"))
         figures |= {"exact x": x, "exact y": y}
@@ -71,6 +74,7 @@ def half_up(quotient):
 # Formulas
 
 FORMULA_NAME = re.compile("|".join(re.escape(name) for name in sorted(NAMES, key=len, reverse=True)) + "|[A-Za-zΣ∫]+")
+DECIMAL = re.compile(r"(\d+)\.(\d+)")
 SIGNS = {"−": "-", "×": "*", "^": "**", "²": "**2", "³": "**3", "⁴": "**4", "⌊": "floor(", "⌋": ")"}
 OPERATORS = {ast.Add: operator.add, ast.Sub: operator.sub, ast.Mult: operator.mul, ast.Div: operator.truediv,
              ast.Pow: operator.pow}
@@ -91,6 +95,7 @@ def value(text, figures):
         return f"({len(found) - 1},)"
 
     code = FORMULA_NAME.sub(numbered, re.sub(r"(?<=\d),(?=\d{3})", "", text))
+    code = DECIMAL.sub(lambda number: f"({int(number[1] + number[2])}/{10 ** len(number[2])})", code)
     for sign, written in SIGNS.items():
         code = code.replace(sign, written)
     try:
@@ -116,7 +121,7 @@ def evaluated(tree, named):
     raise NotAFormula(ast.dump(tree))
 
 
-RELATION = re.compile("(=|≤|<)")
+RELATION = re.compile("(=|≤|<|≈)")
 HOLDS = {"=": operator.eq, "≤": operator.le, "<": operator.lt}
 
 
@@ -124,4 +129,19 @@ def holds(text, figures):
     """Whether each relation of an equation or a chain of inequalities holds."""
     parts = RELATION.split(text)
     values = [value(part, figures) for part in parts[0::2]]
-    return all(HOLDS[sign](values[i], values[i + 1]) for i, sign in enumerate(parts[1::2]))
+    return all(rounds_to(values[i], values[i + 1], parts[2 * i + 2]) if sign == "≈" else HOLDS[sign](values[i], values[i + 1])
+               for i, sign in enumerate(parts[1::2]))
+
+
+def rounds_to(number, decimal, written):
+    """Whether a decimal is the number rounded to as many places as are written, and not the number itself."""
+    places = len(written.strip().partition(".")[2])
+    return number != decimal and 2 * abs(number - decimal) * 10 ** places <= 1
+
+
+def with_decimal(number):
+    """A fraction with its decimal: exact after `=` if it ends within three places, else rounded to three after `≈`."""
+    rounded = f"{float(number):.3f}".rstrip("0").rstrip(".")
+    if number.denominator == 1:
+        return str(number)
+    return f"{number} {'=' if Fraction(rounded) == number else '≈'} {rounded}"

@@ -5,6 +5,7 @@ import subprocess
 from fractions import Fraction
 from pathlib import Path
 
+import crossings
 import exact
 import figures
 import moves
@@ -93,6 +94,7 @@ class Page:
         self.path, self.plots = path, plots
         self.lines = path.read_text().splitlines()
         self.blocks = {}
+        self.examples = {}
         self.general = made_up()
         self.terms = {}
         self.read_blocks()
@@ -101,8 +103,8 @@ class Page:
         return f"{self.path.relative_to(ROOT)}:{number + 1}"
 
     def read_blocks(self):
-        """Computes every fenced block; `self.blocks` has, by its last line, the figures that it gives."""
-        number, given, affine = 0, None, None
+        """Computes every fenced block; `self.blocks` has, by its last line, the figures that it gives, and `self.examples` by its file."""
+        number, given, affine, example = 0, None, None, None
         while number < len(self.lines):
             kind, _, name = self.lines[number].removeprefix("```").partition(" ")
             if not self.lines[number].startswith("```"):
@@ -111,11 +113,11 @@ class Page:
             last = self.lines.index("```", number + 1)
             body = "".join(line + "\n" for line in self.lines[number + 1:last])
             if kind == "input":
-                given = body
+                given, example = body, name
                 expect(not name or (ROOT / name).read_text() == body, self.at(number), f"not the text of {name}")
             elif kind == "output":
                 self.output(number, given, body)
-                self.blocks[last] = printed_figures(given, body)
+                self.blocks[last] = self.examples[example] = printed_figures(given, body)
                 self.general += self.blocks[last].values()
                 if affine is not None:
                     self.moved(number, affine, self.blocks[last])
@@ -126,7 +128,8 @@ class Page:
             elif kind == "map":
                 (a, b, e), (g, h, f) = (map(int, line.split("\t")) for line in body.splitlines())
                 affine = moves.AffineMap(a, b, g, h, e, f)
-            self.lines[number:last + 1] = [""] * (last + 1 - number)
+            if kind in ("input", "output", "runs", "map"):
+                self.lines[number:last + 1] = [""] * (last + 1 - number)
             number = last + 1
 
     def output(self, number, given, body):
@@ -151,19 +154,31 @@ class Page:
             if line.startswith("#"):
                 now = table = None
             elif comment and comment[1] == "figures":
-                now = block.get(comment[2])
-                expect(now is not None, self.at(number), "the block above has no such line")
+                label, _, example = comment[2].partition(" of ")
+                now = (self.examples.get(example, {}) if example else block).get(label)
+                expect(now is not None, self.at(number), "the block has no such line")
+            elif comment and comment[1] in ("crosses", "plain", "same"):
+                self.outlines(number, comment[1], [block[label] for label in comment[2].split(", ")])
             elif comment:
                 table = [comment[1]]
             elif table and line.startswith("|"):
                 table.append([cell.strip() for cell in line.strip("|").split("|")])
                 if not self.lines[number + 1].startswith("|"):
                     getattr(self, "table_" + table[0])(number, table[1:], now)
-                if table[0] in ("edges", "loops"):
+                if table[0] in ("edges", "loops", "trial"):
                     continue
+                if table[0] == "test":
+                    line = "|".join(table[-1][1:])
             elif table and len(table) > 1:
                 table = None
             self.spans(number, line, now)
+
+    def outlines(self, number, claim, found):
+        """The named outlines cross themselves, or are plain, or have the same fields after their number."""
+        kinds = [crossings.kind(each["of"][0]) for each in found]
+        fields = [[each.get(name) for name in exact.PRINTED] for each in found]
+        right = fields.count(fields[0]) == len(fields) if claim == "same" else kinds.count(claim) == len(kinds)
+        expect(right, self.at(number), f"not {claim}: {kinds}, {fields}")
 
     def spans(self, number, line, now):
         """The code spans of a line; what is left of it has no digit."""
@@ -172,6 +187,7 @@ class Page:
         for span in re.findall(r"`([^`]*)`", line):
             if exact.RELATION.search(span):
                 self.relation(number, span, now)
+                expect(now is None or not re.search(r"/ ?\d", exact.RELATION.split(span)[-1]), self.at(number), f"a fraction without its decimal: {span}")
             elif re.search(r"\d", ALLOWED.sub("", span)):
                 expect(any(name in span for name in exact.NAMES), self.at(number), f"a figure that nothing checks: {span}")
 
@@ -235,8 +251,22 @@ class Page:
         """Loops, each with its exact figures, which add up to those of the named line."""
         names = [cell.strip("`") for cell in rows[0][1:]]
         loops = [[(int(x), int(y)) for x, y in POINT.findall(row[0])] for row in rows[2:-1]]
-        found = [[str(exact.outline_figures([loop])[name]) for name in names] for loop in loops] + [[str(now[name]) for name in names]]
-        expect([[cell.strip("`") for cell in row[1:]] for row in rows[2:]] == found, self.at(number), f"the loops have {found}")
-        expect([str(exact.outline_figures(loops)[name]) for name in names] == found[-1], self.at(number), "the loops do not add up")
+        found = [[exact.outline_figures([loop])[name] for name in names] for loop in loops] + [[now[name] for name in names]]
+        written = [[exact.with_decimal(each) for each in row] for row in found]
+        expect([[cell.strip("`") for cell in row[1:]] for row in rows[2:]] == written, self.at(number), f"the loops have {written}")
+        expect([exact.outline_figures(loops)[name] for name in names] == found[-1], self.at(number), "the loops do not add up")
         drawn = [sorted(loop) for loop in pictures.loops_of(now["of"][0])]
         expect(sorted(map(sorted, loops)) == sorted(drawn), self.at(number), f"the outline's loops are {drawn}")
+
+    def table_test(self, number, rows, _):
+        """The page's test warns of an outline where the test of the trial does."""
+        formulas = [span for row in rows[2:] for span in re.findall(r"`([^`]*)`", row[0])]
+        for known in self.general:
+            if "A2" in known:
+                passed = known["A2"] != 0 and all(exact.holds(formula, known) for formula in formulas)
+                expect(passed != crossings.warns([known[name] for name in exact.TOTALS]), self.at(number), f"not the test of the trial, for {known['of']}")
+
+    def table_trial(self, number, rows, _):
+        """The counts of the trial."""
+        counted = crossings.trial(figures.outline_totals)
+        expect(rows[2:] == counted, self.at(number), f"the trial counts {counted}")

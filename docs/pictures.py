@@ -3,20 +3,26 @@
 A loop that is walked anticlockwise counts as positive and is drawn light; one that is walked clockwise counts as
 negative and is drawn dark.
 """
+import itertools
 from fractions import Fraction
 from pathlib import Path
 
+from crossings import turn
+
 DOCS = Path(__file__).resolve().parent
 EXAMPLES = DOCS.parent / "examples"
-PICTURES = ("rectangle", "figure-eight")
+# By its name, the example file that a picture is of, and which of the file's outlines.
+PICTURES = {"rectangle": ("rectangle", 0), "figure-eight": ("figure-eight", 0), "crossing-twin": ("twins", 0), "plain-twin": ("twins", 1)}
 WIDTH = 400
 MARGIN = 76
+HALO = 'stroke="#ffffff" stroke-width="3" stroke-opacity="0.7" paint-order="stroke"'
 POSITIVE, NEGATIVE, LINE, GRID, TEXT = "#cfe8cf", "#e8b4a8", "#1f3d1f", "#dddddd", "#222222"
 
 
-def points_of(name):
-    """The points of an example file."""
-    lines = (line.split("\t") for line in (EXAMPLES / f"{name}.txt").read_text().splitlines())
+def points_of(name, place):
+    """The points of one outline of an example file."""
+    outline = (EXAMPLES / f"{name}.txt").read_text().split("B\n")[place + 1]
+    lines = (line.split("\t") for line in outline.splitlines())
     return [(int(line[1]), int(line[2])) for line in lines if line[0] == "P"]
 
 
@@ -53,9 +59,21 @@ def signed_area(points):
     return Fraction(sum(x * q - p * y for (x, y), (p, q) in zip(points, points[1:] + points[:1])), 2)
 
 
+def roomy_place(loop):
+    """Where a label has room: of the mean of the corners and the middles between two, that inside and farthest from the edges."""
+    edges = list(zip(loop, loop[1:] + loop[:1]))
+
+    def room(place):
+        inside = sum((a[1] <= place[1]) != (b[1] <= place[1]) and turn(a, b, place) * (b[1] - a[1]) > 0 for a, b in edges) % 2
+        return inside * min(Fraction(turn(a, b, place) ** 2, (b[0] - a[0]) ** 2 + (b[1] - a[1]) ** 2) for a, b in edges)
+
+    groups = [loop, *itertools.combinations(loop, 2)]
+    return max((tuple(Fraction(sum(place[i] for place in group), len(group)) for i in (0, 1)) for group in groups), key=room)
+
+
 def picture(name):
     """The picture as SVG text."""
-    points = points_of(name)
+    points = points_of(*PICTURES[name])
     xs, ys = [0, *(x for x, _ in points)], [0, *(y for _, y in points)]
     step = Fraction(WIDTH - 2 * MARGIN, max(max(xs) - min(xs), max(ys) - min(ys)))
     height = float((max(ys) - min(ys)) * step + 2 * MARGIN)
@@ -70,10 +88,8 @@ def picture(name):
     def text(place, words, right=0, down=4, size=12):
         anchor = {-1: "end", 0: "middle", 1: "start"}[(right > 0) - (right < 0)]
         x, y = map(float, at(place))
-        return f'<text x="{x + right:.1f}" y="{y + down:.1f}" font-size="{size}" text-anchor="{anchor}">{words}</text>'
+        return f'<text x="{x + right:.1f}" y="{y + down:.1f}" font-size="{size}" text-anchor="{anchor}" {HALO}>{words}</text>'
 
-    # A label stands away from the middle of the outline.
-    middle = tuple(Fraction(sum(place[i] for place in points), len(points)) for i in (0, 1))
     drawn = [f'<svg xmlns="http://www.w3.org/2000/svg" width="{WIDTH}" height="{height:.0f}" viewBox="0 0 {WIDTH} {height:.0f}" font-family="sans-serif" fill="{TEXT}">',
              '<defs><marker id="arrow" viewBox="0 0 8 8" refX="6" refY="4" markerWidth="8" markerHeight="8" orient="auto">'
              f'<path d="M0 0 L8 4 L0 8 z" fill="{LINE}"/></marker></defs>',
@@ -92,12 +108,13 @@ def picture(name):
         drawn += [line(a, b, f'stroke="{LINE}" stroke-width="2"'), line(a, short, f'stroke="{LINE}" stroke-width="2" marker-end="url(#arrow)"')]
     for loop in loops:
         area = signed_area(loop)
-        centre = tuple(Fraction(sum(place[i] for place in loop), len(loop)) for i in (0, 1))
-        drawn.append(text(centre, f"{'+' if area > 0 else '−'}{abs(area)} dm²"))
+        drawn.append(text(roomy_place(loop), f"{'+' if area > 0 else '−'}{float(abs(area)):g} dm²"))
     for number, (x, y) in enumerate(points, 1):
         px, py = at((x, y))
         drawn.append(f'<circle cx="{px}" cy="{py}" r="3.5" fill="{LINE}"/>')
-        east, north = ((place > mean) - (place < mean) for place, mean in zip((x, y), middle))
+        # A point's label stands away from the middle between its neighbours.
+        before, after = points[number - 2], points[number % len(points)]
+        east, north = ((2 * own > s + t) - (2 * own < s + t) for own, s, t in zip((x, y), before, after))
         drawn.append(text((x, y), f"{number}: ({x}, {y})", 10 * east, 4 - 16 * north))
     px, py = map(float, at((0, 0)))
     drawn.append(f'<rect x="{px - 7:.1f}" y="{py - 7:.1f}" width="14" height="14" fill="none" stroke="{LINE}"/>')
