@@ -259,9 +259,11 @@ class Page:
         expect(sorted(map(sorted, loops)) == sorted(drawn), self.at(number), f"the outline's loops are {drawn}")
 
     def table_test(self, number, rows, _):
-        """The page's test warns of an outline where the test of the trial does."""
+        """The page's test warns of an outline where the test of the trial does, of small ones too."""
         formulas = [span for row in rows[2:] for span in re.findall(r"`([^`]*)`", row[0])]
-        for known in self.general:
+        small = [exact.outline_figures([points]) | dict(zip(exact.TOTALS, figures.outline_totals(points))) | {"of": [points]}
+                 for points in crossings.walks_on_grid(4, 3)]
+        for known in [*self.general, *small]:
             if "A2" in known:
                 passed = known["A2"] != 0 and all(exact.holds(formula, known) for formula in formulas)
                 expect(passed != crossings.warns([known[name] for name in exact.TOTALS]), self.at(number), f"not the test of the trial, for {known['of']}")
