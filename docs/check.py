@@ -28,6 +28,7 @@ import figures  # noqa: E402
 import moves  # noqa: E402
 import pictures  # noqa: E402
 import text  # noqa: E402
+from crates import listed_crates  # noqa: E402
 from page import Page, expect, wrong  # noqa: E402
 
 PRINTED_REFUSALS = [1, 9, 10, *range(21, 27)]
@@ -44,13 +45,6 @@ LIMITS = {
     "lines of the input": f"at most {text.MOST_LINES:,}",
     "bytes of the input": f"at most {text.MOST_BYTES:,}",
 }
-
-
-def listed_crates():
-    """crates.txt: each crate and the crates of this repository that it rests on."""
-    lines = [line.split("#")[0].partition(":") for line in (ROOT / "crates.txt").read_text().splitlines()]
-    named = {name.strip(): rest.split() for name, _, rest in lines if name.strip()}
-    return {name: [other for other in rest if other in named] for name, rest in named.items()}
 
 
 def table_under(path, heading):

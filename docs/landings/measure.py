@@ -16,7 +16,11 @@ import sys
 import time
 from pathlib import Path
 
+sys.dont_write_bytecode = True
 ROOT = Path(__file__).resolve().parent.parent.parent
+sys.path.insert(0, str(ROOT / "docs"))
+from crates import listed_crates  # noqa: E402
+
 COPY = ROOT / "target" / "measured"
 MARK = "<!-- docs/landings/measure.py writes {} from here -->\n"
 MARK_ENDS = "<!-- to here -->\n"
@@ -26,20 +30,6 @@ BESIDE = {"second": "*.py", "docs": "**/*.py", "bench": "*.*", "callers": "**/*.
 
 
 # Counting
-
-def listed_crates():
-    """The crates of crates.txt, each after all that it rests on."""
-    lines = [line.split("#")[0].partition(":") for line in (ROOT / "crates.txt").read_text().splitlines()]
-    left = {name.strip(): rest.split() for name, _, rest in lines if name.strip()}
-    done = []
-    while left:
-        ready = [name for name, rest in left.items() if not any(other in left for other in rest)]
-        if not ready:
-            sys.exit(f"crates.txt goes round in a circle: {', '.join(left)}")
-        done += ready
-        left = {name: rest for name, rest in left.items() if name not in ready}
-    return done
-
 
 def filled_lines(paths):
     """Lines that are not empty."""
@@ -66,6 +56,11 @@ def declarations(paths):
     return defined, stated
 
 
+def edits_of(crate):
+    """The edits that must be refused."""
+    return sorted((ROOT / "crates" / crate).glob("must-fail/*.edit"))
+
+
 def counts_of(crate):
     """One row: what the crate has."""
     folder = ROOT / "crates" / crate
@@ -73,7 +68,7 @@ def counts_of(crate):
     specs = sorted(folder.glob("specs/**/*.antt"))
     lemmas = sorted(folder.glob("proofs/*.antt"))
     proofs = sorted(folder.glob("proofs/*/**/*.antt"))
-    edits = sorted(folder.glob("must-fail/*.edit"))
+    edits = edits_of(crate)
     functions = [public for path in code for public in FUNCTION.findall(path.read_text())]
     return [len(functions), sum(map(bool, functions)), sum(declarations(specs)), declarations(lemmas)[1], len(edits),
             filled_lines(code), filled_lines(specs), filled_lines(lemmas), filled_lines(proofs), filled_lines(edits)]
@@ -115,8 +110,7 @@ def times(gate):
     rows = []
     for crate in listed_crates():
         seconds, _ = timed(["rt", "check", crate], RT_JOBS="1")
-        edits = len(list((ROOT / "crates" / crate / "must-fail").glob("*.edit")))
-        rows.append([f"`{crate}`", round(seconds), edits])
+        rows.append([f"`{crate}`", round(seconds), len(edits_of(crate))])
         print(f"{crate}: {round(seconds)} s", file=sys.stderr)
     rows.append(["all, one at a time", sum(row[1] for row in rows), sum(row[2] for row in rows)])
     taken = table(["Crate", "check, s", "refused edits, each a check more"], rows)
