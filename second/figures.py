@@ -4,6 +4,7 @@ Maps and cuts are in moves.py.  Whole numbers only.  Every call answers a refusa
 number first; 0 means that the call was accepted.  A refused call answers zeros
 and changes nothing.
 """
+from operator import add, gt
 from typing import NamedTuple
 
 COORDINATE_LIMIT = 2_000
@@ -66,8 +67,12 @@ OUTLINE_BOUNDS = Totals(8_192_000_000,
                         32_768_000_000_000, 32_768_000_000_000,
                         98_304_000_000_000_000, 196_608_000_000_000_000,
                         98_304_000_000_000_000)
+# 28, by an open walk's count of points; 1/1,024 of each outline bound is a whole number.
+WALK_BOUNDS = [Totals(*(count * bound // MOST_POINTS for bound in OUTLINE_BOUNDS))
+               for count in range(MOST_POINTS + 1)]
+SHEET_BOUNDS = Totals(*[TOTAL_LIMIT] * 6)
 CLOSED_WALK = Walk(False, 0, (0, 0), (0, 0), ZERO_TOTALS)
-FRESH_WALK = Walk(True, 0, (0, 0), (0, 0), ZERO_TOTALS)
+FRESH_WALK = CLOSED_WALK._replace(is_open=True)
 NEW_SHEET = Sheet(0, ZERO_TOTALS)
 
 
@@ -88,7 +93,12 @@ def edge_terms(start, end):
 
 def added(totals, more):
     """Each of the six added by itself."""
-    return Totals(*(one + other for one, other in zip(totals, more)))
+    return Totals(*map(add, totals, more))
+
+
+def within_bounds(totals, bounds):
+    """No total is greater in size than its bound."""
+    return not any(map(gt, map(abs, totals), bounds))
 
 
 def outline_totals(points):
@@ -117,11 +127,6 @@ def list_call(numbers):
 
 # Walk and sheet
 
-def totals_in_sheet_limits(totals):
-    """Every total from -10^18 to 10^18."""
-    return all(-TOTAL_LIMIT <= total <= TOTAL_LIMIT for total in totals)
-
-
 def walk_is_turned_back(walk):
     """The walk's half of 28, which looks at an open walk only."""
     if not walk.is_open:
@@ -130,13 +135,12 @@ def walk_is_turned_back(walk):
         return True
     if walk.count > 0 and not (within_limits(walk.first) and within_limits(walk.last)):
         return True
-    return any(abs(total) * MOST_POINTS > walk.count * bound
-               for total, bound in zip(walk.totals, OUTLINE_BOUNDS))
+    return not within_bounds(walk.totals, WALK_BOUNDS[walk.count])
 
 
 def sheet_is_turned_back(sheet):
     """The sheet's half of 28."""
-    return sheet.count > MOST_OUTLINES or not totals_in_sheet_limits(sheet.totals)
+    return sheet.count > MOST_OUTLINES or not within_bounds(sheet.totals, SHEET_BOUNDS)
 
 
 def begin(walk):
@@ -159,9 +163,9 @@ def point(walk, place):
     if walk.count >= MOST_POINTS:
         return 23, walk
     if walk.count == 0:
-        return ACCEPTED, Walk(True, 1, place, place, walk.totals)
+        return ACCEPTED, walk._replace(count=1, first=place, last=place)
     totals = added(walk.totals, edge_terms(walk.last, place))
-    return ACCEPTED, Walk(True, walk.count + 1, walk.first, place, totals)
+    return ACCEPTED, walk._replace(count=walk.count + 1, last=place, totals=totals)
 
 
 def add_to_sheet(sheet, totals):
@@ -169,9 +173,9 @@ def add_to_sheet(sheet, totals):
     if sheet.count >= MOST_OUTLINES:
         return 25, sheet
     sums = added(sheet.totals, totals)
-    if not totals_in_sheet_limits(sums):
+    if not within_bounds(sums, SHEET_BOUNDS):
         return 26, sheet
-    return ACCEPTED, Sheet(sheet.count + 1, sums)
+    return ACCEPTED, sheet._replace(count=sheet.count + 1, totals=sums)
 
 
 def end(walk, sheet):
@@ -246,7 +250,7 @@ def rounded_half_up(n, d):
 
 def centre_of_totals(totals):
     """Centre of an outline or a sheet: (number, x, y).  Order 11, 27."""
-    if not totals_in_sheet_limits(totals):
+    if not within_bounds(totals, SHEET_BOUNDS):
         return 11, 0, 0
     if totals.a2 == 0:
         return 27, 0, 0

@@ -1,8 +1,8 @@
 """Maps, cuts, starts and directions of document 01, straight from its rules."""
 from typing import NamedTuple
 
-from figures import ACCEPTED, COORDINATE_LIMIT, OUTLINE_BOUNDS, ZERO_TOTALS
-from figures import Totals, totals_in_sheet_limits
+from figures import ACCEPTED, COORDINATE_LIMIT, OUTLINE_BOUNDS, SHEET_BOUNDS, ZERO_TOTALS
+from figures import Totals, within_bounds
 
 COEFFICIENT_LIMIT = 2
 SHIFT_LIMIT = COORDINATE_LIMIT
@@ -35,11 +35,6 @@ def map_is_allowed(affine):
             and all(-SHIFT_LIMIT <= value <= SHIFT_LIMIT for value in shifts))
 
 
-def in_outline_bounds(totals):
-    """Not turned back by 4."""
-    return all(-bound <= total <= bound for total, bound in zip(totals, OUTLINE_BOUNDS))
-
-
 def mapped_totals(affine, totals):
     """The six formulas of "Maps"."""
     a, b, g, h, e, f = affine
@@ -61,10 +56,10 @@ def map_call(affine, totals):
     """The map's answer for six totals: (number, totals).  Order 3, 4, 5."""
     if not map_is_allowed(affine):
         return 3, ZERO_TOTALS
-    if not in_outline_bounds(totals):
+    if not within_bounds(totals, OUTLINE_BOUNDS):
         return 4, ZERO_TOTALS
     answer = mapped_totals(affine, totals)
-    if not totals_in_sheet_limits(answer):
+    if not within_bounds(answer, SHEET_BOUNDS):
         return 5, ZERO_TOTALS
     return ACCEPTED, answer
 

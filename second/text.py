@@ -1,8 +1,8 @@
 """The text program of document 01: all of standard input to all of standard output."""
 import re
 
-from figures import ACCEPTED, LEAST_POINTS, MOST_POINTS, NEW_SHEET, ZERO_TOTALS
-from figures import add_to_sheet, added, centre_of_totals, edge_terms, within_limits
+from figures import ACCEPTED, CLOSED_WALK, NEW_SHEET
+from figures import abandon, begin, centre_of_totals, end, point
 
 MOST_LINES = 1_000_000
 MOST_BYTES = 33_000_000
@@ -13,23 +13,18 @@ POINT_LINE = re.compile(rb"P\t" + NUMBER + rb"\t" + NUMBER)
 
 
 def lines(data):
-    """Pairs of line number from 1 and the line without its newline, or None in place of it for 10.
+    """The lines without their newlines, None in place of the one for 10, which is the last.
 
     The newline counts as the last byte of its line.  A line is 10 if it is line
     1,000,001 or holds byte 33,000,001; nothing is read after it.
     """
-    number = 0
-    start = 0
-    while start < len(data):
-        number += 1
-        newline = data.find(b"\n", start)
-        content_end = len(data) if newline == -1 else newline
-        line_end = len(data) if newline == -1 else newline + 1
-        if number > MOST_LINES or line_end > MOST_BYTES:
-            yield number, None
-            return
-        yield number, data[start:content_end]
-        start = line_end
+    read = data[:MOST_BYTES + 1]
+    found = read.split(b"\n", MOST_LINES)
+    if found[-1] == b"":
+        found.pop()    # nothing comes after the last newline
+    if len(found) > MOST_LINES or len(read) > MOST_BYTES:
+        found[-1] = None
+    return found
 
 
 def totals_and_centre(totals):
@@ -44,23 +39,12 @@ def written(*fields):
 
 
 class TextProgram:
-    """"The text program": its sheet, its walk and what it has printed so far.
-
-    Each edge is summed once, when its last point comes, so that many ends
-    refused on one long walk cost no more than other lines.
-    """
+    """"The text program": its walk, its sheet and what it has printed so far."""
 
     def __init__(self):
-        self.printed = []
+        self.walk = CLOSED_WALK
         self.sheet = NEW_SHEET
-        self.close()
-
-    def close(self):
-        """No walk is open."""
-        self.is_open = False
-        self.count = 0
-        self.first = self.last = None
-        self.totals = ZERO_TOTALS
+        self.printed = []
 
     def refusal(self, line):
         """Carry out one line; answer its refusal number, 0 if accepted.
@@ -70,66 +54,30 @@ class TextProgram:
         if line is None:
             return 10
         if line == b"B":
-            return self.begin()
-        if line == b"E":
-            return self.end()
-        if line == b"A":
-            return self.abandon()
-        numbers = POINT_LINE.fullmatch(line)
-        if numbers is None:
-            return 9
-        return self.point((int(numbers[1]), int(numbers[2])))
-
-    def begin(self):
-        """22."""
-        if self.is_open:
-            return 22
-        self.is_open = True
-        return ACCEPTED
-
-    def point(self, place):
-        """21, 1, 23."""
-        if not self.is_open:
-            return 21
-        if not within_limits(place):
-            return 1
-        if self.count >= MOST_POINTS:
-            return 23
-        if self.count == 0:
-            self.first = place
+            number, self.walk = begin(self.walk)
+        elif line == b"E":
+            number = self.end()
+        elif line == b"A":
+            number, self.walk = abandon(self.walk)
+        elif coordinates := POINT_LINE.fullmatch(line):
+            number, self.walk = point(self.walk, (int(coordinates[1]), int(coordinates[2])))
         else:
-            self.totals = added(self.totals, edge_terms(self.last, place))
-        self.last = place
-        self.count += 1
-        return ACCEPTED
+            number = 9
+        return number
 
     def end(self):
-        """21, 24, 25, 26; a refused end leaves the walk open."""
-        if not self.is_open:
-            return 21
-        if self.count < LEAST_POINTS:
-            return 24
-        totals = added(self.totals, edge_terms(self.last, self.first))
-        number, sheet = add_to_sheet(self.sheet, totals)
-        if number != ACCEPTED:
-            return number
-        self.printed.append(written("O", sheet.count, self.count, *totals_and_centre(totals)))
-        self.sheet = sheet
-        self.close()
-        return ACCEPTED
-
-    def abandon(self):
-        """21."""
-        if not self.is_open:
-            return 21
-        self.close()
-        return ACCEPTED
+        """An accepted end prints its outline."""
+        points = self.walk.count
+        number, totals, self.walk, self.sheet = end(self.walk, self.sheet)
+        if number == ACCEPTED:
+            self.printed.append(written("O", self.sheet.count, points, *totals_and_centre(totals)))
+        return number
 
 
 def output(data: bytes) -> bytes:
     """All of standard input to all of standard output."""
     program = TextProgram()
-    for number, line in lines(data):
+    for number, line in enumerate(lines(data), 1):
         refusal = program.refusal(line)
         if refusal != ACCEPTED:
             program.printed.append(f"R\t{number}\t{refusal}\n")
