@@ -21,7 +21,7 @@ import time
 
 import text
 from inputs import fixed_inputs
-from limits import MOST_BYTES, byte_limit_inputs, endless_inputs, line_limit_inputs, long_inputs
+from limits import byte_limit_inputs, endless_inputs, line_limit_inputs, long_inputs
 from madeup import random_input
 
 # 27 shows as a missing centre.  The others of document 01 cannot arise in text:
@@ -139,7 +139,7 @@ def smallest_difference(data, differs):
 # Reporting
 
 def split_lines(data):
-    """Lines with their newlines; only a newline parts them."""
+    """Lines with their newlines; only a newline separates them."""
     return re.findall(rb"[^\n]*\n|[^\n]+", data)
 
 
@@ -163,13 +163,13 @@ def report(name, command, data, chunk_seed):
 
 
 def show_outputs(command, wanted, got):
-    """Both outputs, from shortly before they part."""
+    """Both outputs, from shortly before they differ."""
     wanted, got = split_lines(wanted), split_lines(got)
     same = 0
     while same < min(len(wanted), len(got)) and wanted[same] == got[same]:
         same += 1
     start = max(0, same - 3)
-    print(f"outputs part at output line {same + 1}, shown from line {start + 1}\n"
+    print(f"outputs differ from output line {same + 1}, shown from line {start + 1}\n"
           f"second program:\n{shown(wanted[start:], 12)}"
           f"{shlex.join(command)}:\n{shown(got[start:], 12)}", end="")
 
@@ -195,7 +195,7 @@ def all_inputs(rng, cases, with_long):
 def ends_without_end_of_input(command):
     """On input that never ends the program ends, with what it prints for as much as it may read."""
     for name, piece in endless_inputs():
-        wanted = text.output(piece * (MOST_BYTES // len(piece) + 2))
+        wanted = text.output(piece * (text.MOST_BYTES // len(piece) + 2))
         got = printed_by(command, piece, None, without_end=True)
         if got != wanted:
             print(f"DIFFERENCE on: {name} without end")

@@ -1,4 +1,5 @@
 """Made-up input for the text program of document 01: pairs of a name and bytes."""
+from moves import walked_backwards
 
 SQUARE = [(2000, -2000), (2000, 2000), (-2000, 2000), (-2000, -2000)]
 QUADRANT = [(0, 0), (2000, 0), (2000, 2000), (0, 2000)]
@@ -51,11 +52,6 @@ def outlines(*many):
     return [line for points in many for line in outline_lines(points)]
 
 
-def turned(points):
-    """Walked backwards."""
-    return points[::-1]
-
-
 def swapped(points):
     """x and y exchanged, in the direction that keeps the signs."""
     return [(y, x) for x, y in reversed(points)]
@@ -77,14 +73,14 @@ def over_and_back(change):
 def sheet_limit_inputs():
     """26 from both sides of the limit, and 25 before 26."""
     xx12, xy24 = up_to_the_sheet_limit()
-    for total, many, way, change in (("XX12", xx12, "", list), ("XX12", xx12, " negative", turned),
+    for total, many, way, change in (("XX12", xx12, "", list), ("XX12", xx12, " negative", walked_backwards),
                                      ("YY12", xx12, "", swapped),
-                                     ("XY24", xy24, "", list), ("XY24", xy24, " negative", turned)):
+                                     ("XY24", xy24, "", list), ("XY24", xy24, " negative", walked_backwards)):
         lines = outlines(*(change(points) for points in many)) + over_and_back(change)
         yield f"{total} at the sheet limit{way}", joined(lines)
     sixteen = outlines(*[SQUARE * 256] * 16)
     yield "16 outlines of 1,024 points", joined(sixteen + [b"P\t1\t1", b"B", b"E", b"A", b"A"])
-    yield "16 turned outlines", joined(outlines(*[turned(SQUARE) * 256] * 16))
+    yield "16 outlines walked backwards", joined(outlines(*[walked_backwards(SQUARE) * 256] * 16))
     small = outlines(*[UNIT_TRIANGLE] * 49)
     yield "25 before 26", joined(outlines(*[SQUARE * 256] * 15) + small + outline_lines(SQUARE * 256))
 
@@ -103,13 +99,13 @@ def state_inputs():
         yield f"walk of {points} points", joined(lines)
     full = outlines(*[[(i, 0), (i + 2, 1), (i, 3)] for i in range(66)])
     yield "66 outlines", joined(full + [b"E", b"P\t1\t1", b"E", b"A", b"B", b"E", b"P\t0\t0", b"E"])
-    yield "area zero", joined(outlines([(5, 7)] * 3, UNIT_TRIANGLE, turned(UNIT_TRIANGLE)))
+    yield "area zero", joined(outlines([(5, 7)] * 3, UNIT_TRIANGLE, walked_backwards(UNIT_TRIANGLE)))
     mirrored = [(x, -y) for x, y in LARGE_TRIANGLE]
     yield "sheet area zero, moments left", joined(outlines(LARGE_TRIANGLE, mirrored))
     squares = [[(x, y), (x + 1, y), (x + 1, y + 1), (x, y + 1)]
                for x in range(-3, 3) for y in range(-3, 3)]
     yield "centres at halves", joined(outlines(*squares))
-    yield "centres at halves, turned", joined(outlines(*map(turned, squares)))
+    yield "centres at halves, walked backwards", joined(outlines(*map(walked_backwards, squares)))
     yield "walk left open", joined(outline_lines(SQUARE)[:-1])
     yield "first point repeated", joined(outlines(SQUARE + SQUARE[:1], LARGE_TRIANGLE))
 
@@ -140,7 +136,7 @@ def form_inputs():
 
 
 def border_inputs():
-    """Long lines before and across the places where a reader may part its input."""
+    """Long lines before and across the places where a reader may divide its input."""
     sound = joined(outline_lines([(-2000, 1999), (1987, -1765), (1234, 1876)]))
     for border in (32, 64, 1024, 4096, 8192, 16384, 32768, 65536, 131072):
         for length in (border - 20, border - 7, border - 2, border - 1, border, border + 1):

@@ -1,10 +1,9 @@
 """Input at the limits of 10, made on the spot: pairs of a name and bytes."""
 from inputs import SQUARE, joined, outline_lines, outlines, point_line
-
-MOST_LINES = 1_000_000
-MOST_BYTES = 33_000_000
+from text import MOST_BYTES, MOST_LINES
 
 OPEN_WALK = b"B\nP\t0\t0\nP\t9\t0\nP\t0\t9\n"
+ALL_LINES_BUT_ONE = OPEN_WALK + b"\n" * (MOST_LINES - 1 - OPEN_WALK.count(b"\n"))
 
 
 def filler(rng, size):
@@ -38,9 +37,8 @@ def byte_limit_inputs(rng):
 
 def line_limit_inputs():
     """Line 1,000,000 and line 1,000,001."""
-    before = OPEN_WALK + b"\n" * (MOST_LINES - 5)
-    yield "1,000,000 lines", before + b"E\n"
-    yield "1,000,001 lines, the last one byte", before + b"\nE"
+    yield "1,000,000 lines", ALL_LINES_BUT_ONE + b"E\n"
+    yield "1,000,001 lines, the last one byte", ALL_LINES_BUT_ONE + b"\nE"
 
 
 def endless_inputs():
@@ -51,10 +49,9 @@ def endless_inputs():
 
 def long_inputs(rng):
     """Those that cost more: under --long."""
-    before = OPEN_WALK + b"\n" * (MOST_LINES - 5)
     yield "1,000,000 lines of 33 bytes and a byte", (b"x" * 32 + b"\n") * MOST_LINES + b"\n"
-    yield "1,000,000 lines, no last newline", before + b"E"
-    yield "1,000,001 lines, the last empty", before + b"\n\n"
+    yield "1,000,000 lines, no last newline", ALL_LINES_BUT_ONE + b"E"
+    yield "1,000,001 lines, the last empty", ALL_LINES_BUT_ONE + b"\n\n"
     yield "1,000,001 sound lines and more", b"B\nA\n" * (MOST_LINES // 2) + b"E\nE\nB\n"
     walk = outline_lines([(x, x * 7 % 1999) for x in range(1000)])
     yield "a million points and more", joined(walk) * 1_010

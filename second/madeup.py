@@ -1,27 +1,28 @@
 """Input from a seeded generator for the text program: valid, damaged and mixed."""
-from inputs import LISTING, ODD_LINES, SQUARE, joined, outline_lines, point_line, turned
+from inputs import LISTING, ODD_LINES, SQUARE, joined, outline_lines, point_line
+from moves import walked_backwards
 
 BYTES_TO_PUT_IN = b"\n\n\n\t\t\r\x00\xff\x80\xb2BEAPbep 0123456789-+.:/"
 
 
-def random_points(rng, reach, most=9):
-    """Points of one outline, some too few."""
+def random_points(rng, reach, least, most):
+    """Between the least and the most number of points, each coordinate at most the reach from 0."""
     return [(rng.randint(-reach, reach), rng.randint(-reach, reach))
-            for _ in range(rng.randint(0, most))]
+            for _ in range(rng.randint(least, most))]
 
 
 def survey(rng):
-    """Outlines and single calls in any order; some outlines come again backwards."""
+    """Outlines, some with too few points, and single calls in any order; some outlines come again backwards."""
     reach = rng.choice([1, 2, 3, 10, 300, 2000, 2003, 9999])
     with_odd_lines = rng.random() < 0.4
     lines = []
     for _ in range(rng.randint(1, 90)):
         kind = rng.random()
         if kind < 0.6:
-            points = random_points(rng, reach)
+            points = random_points(rng, reach, 0, 9)
             lines += outline_lines(points, rng.choice([b"E"] * 8 + [b"A", b"B"]))
             if rng.random() < 0.2:
-                lines += outline_lines(turned(points))
+                lines += outline_lines(walked_backwards(points))
         elif kind < 0.9 or not with_odd_lines:
             lines.append(rng.choice([b"B", b"E", b"A", point_line((rng.randint(-2, 2), 3))]))
         else:
@@ -70,8 +71,7 @@ def line_soup(rng):
 
 def long_walk(rng):
     """About 1,024 points, then points in and out of limits and ends."""
-    points = [(rng.randint(-2000, 2000), rng.randint(-2000, 2000))
-              for _ in range(rng.randint(1018, 1028))]
+    points = random_points(rng, 2000, 1018, 1028)
     tail = [rng.choice([b"E", b"B", b"P\t2001\t0", b"P\t1\t1", b"x", b"A"]) for _ in range(8)]
     return joined(outline_lines(points) + tail + outline_lines(points[:5]))
 
@@ -80,7 +80,7 @@ def full_sheet(rng):
     """About 64 outlines."""
     lines = []
     for _ in range(rng.randint(62, 70)):
-        lines += outline_lines(random_points(rng, 5, 5) + [(0, 0)] * 3)
+        lines += outline_lines(random_points(rng, 5, 0, 5) + [(0, 0)] * 3)
         if rng.random() < 0.1:
             lines.append(rng.choice([b"E", b"A", b"B", b"P\t1\t1"]))
     return joined(lines)
@@ -88,12 +88,12 @@ def full_sheet(rng):
 
 def heavy_sheet(rng):
     """Outlines near the bounds until a sheet total would pass 10^18, in either direction."""
-    square = rng.choice([SQUARE, turned(SQUARE)])
+    square = rng.choice([SQUARE, walked_backwards(SQUARE)])
     lines = []
     for _ in range(rng.randint(15, 18)):
         lines += outline_lines(square * rng.randint(230, 256))
         if rng.random() < 0.3:
-            lines += outline_lines(turned(square) * rng.randint(1, 9))
+            lines += outline_lines(walked_backwards(square) * rng.randint(1, 9))
         lines += rng.choice([[], [b"A"], [b"E"]])
     return joined(lines)
 

@@ -8,15 +8,15 @@ import sys
 
 import text
 from figures import CLOSED_WALK, FRESH_WALK, NEW_SHEET, OUTLINE_BOUNDS, ZERO_SUMS, ZERO_TOTALS
-from figures import CellSums, Run, Sheet, Totals, Walk
+from figures import CellSums, Run, Sheet, Totals
 from figures import abandon, added, begin, centre_of_cells, centre_of_totals, edge_terms, end
 from figures import list_call, outline_totals, point, region_sums, within_limits
+from inputs import LISTING
+from madeup import random_points
 from moves import AffineMap, Cut
 from moves import after_cuts, map_call, moved, started_at, walked_backwards
 from worked import numbers_of, walked
 
-LISTING_INPUT = ("B", "P 2 0", "P 10 4", "P 8 8", "P 0 4", "E",
-                 "B", "P 0 0", "P 2 2", "P 2 0", "P 0 2", "E", "P 1 1")
 LISTING_OUTPUT = ("O 1 4 80 1200 960 14720 21120 8960 5 4",
                   "O 2 4 0 -8 0 -32 -32 0 - -",
                   "R 13 21",
@@ -46,9 +46,8 @@ def with_tabs(shown_lines):
 
 def check_listing():
     """"The text program": the listing, with and without its last newline."""
-    data = with_tabs(LISTING_INPUT)
-    check("listing", text.output(data), with_tabs(LISTING_OUTPUT))
-    check("listing without newline", text.output(data[:-1]), with_tabs(LISTING_OUTPUT))
+    check("listing", text.output(LISTING + b"\n"), with_tabs(LISTING_OUTPUT))
+    check("listing without newline", text.output(LISTING), with_tabs(LISTING_OUTPUT))
     check("no input", text.output(b""), with_tabs(["S 0 0 0 0 0 0 0 - -"]))
     too_long = b"x" * 33_000_001
     check("one long line", text.output(too_long[:-1]), with_tabs(["R 1 9", "S 0 0 0 0 0 0 0 - -"]))
@@ -90,21 +89,21 @@ def check_unnoticed_errors():
 
 def check_walk_corners():
     """"Walk and sheet" and 28: corner cases."""
-    odd_closed = Walk(False, 7, (0, 0), (0, 0), ZERO_TOTALS._replace(a2=5))
+    odd_closed = CLOSED_WALK._replace(count=7, totals=ZERO_TOTALS._replace(a2=5))
     full_sheet = Sheet(65, ZERO_TOTALS)
     check("closed, begin", begin(odd_closed), (0, FRESH_WALK))
     check("closed, point", point(odd_closed, (2001, 0)), (21, odd_closed))
     check("closed, abandon", abandon(odd_closed), (21, odd_closed))
     check("closed, end", end(odd_closed, NEW_SHEET), (21, ZERO_TOTALS, odd_closed, NEW_SHEET))
     check("bad sheet", end(odd_closed, full_sheet), (28, ZERO_TOTALS, odd_closed, full_sheet))
-    no_points = Walk(True, 0, (99999, -5), (0, 0), ZERO_TOTALS)
+    no_points = FRESH_WALK._replace(first=(99999, -5))
     check("no points, begin", begin(no_points), (22, no_points))
-    check("no points, point", point(no_points, (3, 4)), (0, Walk(True, 1, (3, 4), (3, 4), ZERO_TOTALS)))
+    check("no points, point", point(no_points, (3, 4)), (0, FRESH_WALK._replace(count=1, first=(3, 4), last=(3, 4))))
     check("no points, end", end(no_points, NEW_SHEET), (24, ZERO_TOTALS, no_points, NEW_SHEET))
     check("no points, abandon", abandon(no_points), (0, CLOSED_WALK))
     bad = no_points._replace(totals=ZERO_TOTALS._replace(a2=1))
     check("no points with area", abandon(bad), (28, bad))
-    one = Walk(True, 1, (0, 0), (5, 5), ZERO_TOTALS._replace(a2=8_000_000))
+    one = FRESH_WALK._replace(count=1, last=(5, 5), totals=ZERO_TOTALS._replace(a2=8_000_000))
     check("one point", abandon(one), (0, CLOSED_WALK))
     for total in range(6):
         most = [0] * 6
@@ -113,7 +112,8 @@ def check_walk_corners():
         most[total] -= 1
         over = one._replace(totals=Totals(*most))
         check("28 over its bound", abandon(over), (28, over))
-    handed_in = Walk(True, 1024, (2000, 2000), (2000, -2000), ZERO_TOTALS._replace(a2=8_192_000_000))
+    handed_in = FRESH_WALK._replace(count=1024, first=(2000, 2000), last=(2000, -2000),
+                                    totals=ZERO_TOTALS._replace(a2=8_192_000_000))
     check("end over the outline bounds", end(handed_in, NEW_SHEET)[1].a2, 8_200_000_000)
     check("1,025 points", abandon(handed_in._replace(count=1025))[0], 28)
     check("open edge by 000", edge_terms((2, 0), (10, 4)).x6, 96)
@@ -198,8 +198,7 @@ if __name__ == "__main__":
     made_up = random.Random(1)
     for _ in range(200):
         reach = made_up.choice([2, 30, 500, 2000])
-        check_demand_3(made_up, [(made_up.randint(-reach, reach), made_up.randint(-reach, reach))
-                                 for _ in range(made_up.randint(3, 12))])
+        check_demand_3(made_up, random_points(made_up, reach, 3, 12))
         check_text_beside_calls(made_up)
     for failure in failed:
         print(failure)

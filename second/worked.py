@@ -1,12 +1,12 @@
 """The rows of "Plots worked by hand" in document 01 that carry no ✱, one line each.
 
-Fields are parted by tabs: label, what was asked, refusal number (0 if accepted), values.
+Fields are separated by tabs: label, what was asked, refusal number (0 if accepted), values.
 """
-from figures import CLOSED_WALK, NEW_SHEET, ZERO_TOTALS
-from figures import Run, Walk, begin, end, list_call, point, region_sums
+from figures import CLOSED_WALK, FRESH_WALK, NEW_SHEET, ZERO_TOTALS
+from figures import Run, begin, end, list_call, point, region_sums
+from inputs import SQUARE
 from moves import AffineMap, map_call
 
-SQUARE = [(2000, -2000), (2000, 2000), (-2000, 2000), (-2000, -2000)]
 DOUBLING = AffineMap(a=2, b=0, g=0, h=2, e=0, f=0)
 
 
@@ -64,7 +64,7 @@ def run_row(first, length):
 def walk_row(count, a2):
     """An open walk handed in.  Asked: points, A2.
     Answered: number, six totals of its end, the sheet's count."""
-    walk = Walk(True, count, (0, 0), (0, 0), ZERO_TOTALS._replace(a2=a2))
+    walk = FRESH_WALK._replace(count=count, totals=ZERO_TOTALS._replace(a2=a2))
     number, totals, _, sheet = end(walk, NEW_SHEET)
     return ["walk", count, a2, number, *totals, sheet.count]
 
