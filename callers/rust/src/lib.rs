@@ -1,6 +1,10 @@
 //! Safe functions over the proved static library `exports`. The numbers of refusals, the units and the order of the totals are document 01's.
 //!
 //! The proofs end at the static library: that the declarations in `linked` fit it is tested (`tests/compare`) and not proved.
+mod refusal;
+
+use refusal::other_version;
+pub use refusal::{Refusal, RegionRefusal};
 
 /// The six totals of an outline, in decimetres to the power 2, 3 and 4: multiples of the area, of the first and of the second moments.
 #[derive(Clone, Copy, Debug, PartialEq, Eq)]
@@ -49,62 +53,6 @@ pub struct CellSums {
     pub xx: i64,
     pub xy: i64,
     pub yy: i64,
-}
-
-/// Why a list of runs has no sums: refusal 6 or 7 with the index, from 0, of a run that breaks the rule, or 8.
-#[derive(Clone, Copy, Debug, PartialEq, Eq)]
-pub enum RegionRefusal {
-    BadRun(usize),
-    OutOfOrder(usize),
-    TooManyRuns,
-}
-
-impl RegionRefusal {
-    pub fn number(self) -> u32 {
-        match self {
-            RegionRefusal::BadRun(_) => 6,
-            RegionRefusal::OutOfOrder(_) => 7,
-            RegionRefusal::TooManyRuns => 8,
-        }
-    }
-}
-
-/// Why a call on an outline or its totals is refused; as a number, that of document 01.
-#[derive(Clone, Copy, Debug, PartialEq, Eq)]
-#[repr(u32)]
-pub enum Refusal {
-    CoordinateOutsideLimits = 1,
-    WrongLength = 2,
-    MapOutsideLimits = 3,
-    TotalsOutsideBounds = 4,
-    MappedOutsideLimits = 5,
-    CentreOutsideLimits = 11,
-    NoArea = 27,
-}
-
-impl Refusal {
-    pub fn number(self) -> u32 {
-        self as u32
-    }
-
-    /// `None` for 0, an accepted call.
-    fn of(number: u32) -> Option<Refusal> {
-        match number {
-            0 => None,
-            1 => Some(Refusal::CoordinateOutsideLimits),
-            2 => Some(Refusal::WrongLength),
-            3 => Some(Refusal::MapOutsideLimits),
-            4 => Some(Refusal::TotalsOutsideBounds),
-            5 => Some(Refusal::MappedOutsideLimits),
-            11 => Some(Refusal::CentreOutsideLimits),
-            27 => Some(Refusal::NoArea),
-            _ => other_version(number),
-        }
-    }
-}
-
-fn other_version(number: u32) -> ! {
-    unreachable!("a static library of another version answered {number}")
 }
 
 /// The answer of a call whose buffer is too short. No refusal of document 01 has this number.

@@ -5,6 +5,7 @@ mod inputs;
 mod lists;
 mod maps;
 mod reference;
+mod refusals;
 mod regions;
 mod worked;
 

@@ -49,8 +49,6 @@ fn region_refusals() {
     assert_eq!(overlap, Err(RegionRefusal::OutOfOrder(2)));
     let many = region_sums(&runs_of(&[[3, 2, 3]; 4097]));
     assert_eq!(many, Err(RegionRefusal::TooManyRuns));
-    let numbers = [row_1024, overlap, many].map(|r| r.expect_err("refused").number());
-    assert_eq!(numbers, [6, 7, 8]);
 }
 
 #[test]
@@ -81,18 +79,4 @@ fn refusals() {
         outline_centroid(totals([i64::MIN; 6])),
         Err(Refusal::CentreOutsideLimits)
     );
-}
-
-#[test]
-fn refusals_have_their_numbers() {
-    let all = [
-        Refusal::CoordinateOutsideLimits,
-        Refusal::WrongLength,
-        Refusal::MapOutsideLimits,
-        Refusal::TotalsOutsideBounds,
-        Refusal::MappedOutsideLimits,
-        Refusal::CentreOutsideLimits,
-        Refusal::NoArea,
-    ];
-    assert_eq!(all.map(Refusal::number), [1, 2, 3, 4, 5, 11, 27]);
 }

@@ -1,0 +1,117 @@
+//! Why a call is refused: the numbers are document 01's, the words those of the project's table of refusals.
+use std::error::Error;
+use std::fmt;
+
+/// Why a call on an outline or its totals is refused; as a number, that of document 01.
+#[derive(Clone, Copy, Debug, PartialEq, Eq)]
+#[repr(u32)]
+pub enum Refusal {
+    CoordinateOutsideLimits = 1,
+    WrongLength = 2,
+    MapOutsideLimits = 3,
+    TotalsOutsideBounds = 4,
+    MappedOutsideLimits = 5,
+    CentreOutsideLimits = 11,
+    NoArea = 27,
+}
+
+impl Refusal {
+    pub fn number(self) -> u32 {
+        self as u32
+    }
+
+    /// `None` for 0, an accepted call.
+    pub(crate) fn of(number: u32) -> Option<Refusal> {
+        match number {
+            0 => None,
+            1 => Some(Refusal::CoordinateOutsideLimits),
+            2 => Some(Refusal::WrongLength),
+            3 => Some(Refusal::MapOutsideLimits),
+            4 => Some(Refusal::TotalsOutsideBounds),
+            5 => Some(Refusal::MappedOutsideLimits),
+            11 => Some(Refusal::CentreOutsideLimits),
+            27 => Some(Refusal::NoArea),
+            _ => other_version(number),
+        }
+    }
+
+    fn meaning(self) -> &'static str {
+        match self {
+            Refusal::CoordinateOutsideLimits => "a coordinate is outside its limits",
+            Refusal::WrongLength => {
+                "a list has an x without its y, or fewer than 3 points, or over 1,024"
+            }
+            Refusal::MapOutsideLimits => "a number of a map is outside its limits",
+            Refusal::TotalsOutsideBounds => "a total handed to a map is larger than any outline's",
+            Refusal::MappedOutsideLimits => {
+                "a total after the map would be greater in size than 10^18"
+            }
+            Refusal::CentreOutsideLimits => {
+                "the totals or sums that a centre is wanted of are outside their limits"
+            }
+            Refusal::NoArea => "the area is 0, so there is no centre",
+        }
+    }
+}
+
+impl fmt::Display for Refusal {
+    fn fmt(&self, f: &mut fmt::Formatter<'_>) -> fmt::Result {
+        write!(f, "refusal {}: {}", self.number(), self.meaning())
+    }
+}
+
+impl Error for Refusal {}
+
+/// Why a list of runs has no sums: refusal 6 or 7 with the index, from 0, of a run that breaks the rule, or 8.
+#[derive(Clone, Copy, Debug, PartialEq, Eq)]
+pub enum RegionRefusal {
+    BadRun(usize),
+    OutOfOrder(usize),
+    TooManyRuns,
+}
+
+impl RegionRefusal {
+    pub fn number(self) -> u32 {
+        match self {
+            RegionRefusal::BadRun(_) => 6,
+            RegionRefusal::OutOfOrder(_) => 7,
+            RegionRefusal::TooManyRuns => 8,
+        }
+    }
+
+    /// The index that comes with 6 and 7.
+    fn index(self) -> Option<usize> {
+        match self {
+            RegionRefusal::BadRun(index) | RegionRefusal::OutOfOrder(index) => Some(index),
+            RegionRefusal::TooManyRuns => None,
+        }
+    }
+
+    fn meaning(self) -> &'static str {
+        match self {
+            RegionRefusal::BadRun(_) => {
+                "a run has a row over 1,023, no length, or an end past column 1,023"
+            }
+            RegionRefusal::OutOfOrder(_) => {
+                "a run has a lower row than the run listed before it, or has the same row and begins before that run ends"
+            }
+            RegionRefusal::TooManyRuns => "there are more than 4,096 runs",
+        }
+    }
+}
+
+impl fmt::Display for RegionRefusal {
+    fn fmt(&self, f: &mut fmt::Formatter<'_>) -> fmt::Result {
+        write!(f, "refusal {}", self.number())?;
+        if let Some(index) = self.index() {
+            write!(f, " (run {index}, counted from 0)")?;
+        }
+        write!(f, ": {}", self.meaning())
+    }
+}
+
+impl Error for RegionRefusal {}
+
+pub(crate) fn other_version(number: u32) -> ! {
+    unreachable!("a static library of another version answered {number}")
+}
