@@ -34,7 +34,7 @@ from page import Page, expect, wrong  # noqa: E402
 PRINTED_REFUSALS = [1, 9, 10, *range(21, 27)]
 OTHER_REFUSALS = [*range(2, 9), 11, 27, 28]
 LIMITS = {
-    "a coordinate": f"-{figures.COORDINATE_LIMIT:,} to {figures.COORDINATE_LIMIT:,} decimetres: {figures.COORDINATE_LIMIT // 10} m from the peg, each way",
+    "a coordinate": f"-{figures.COORDINATE_LIMIT:,} to {figures.COORDINATE_LIMIT:,} decimetres: {figures.COORDINATE_LIMIT // 10} m from the peg, east, west, north and south",
     "points of an outline": f"{figures.LEAST_POINTS} to {figures.MOST_POINTS:,}",
     "outlines of a sheet": f"at most {figures.MOST_OUTLINES}",
     "each total of a sheet": "-10^18 to 10^18" if figures.TOTAL_LIMIT == 10 ** 18 else "",

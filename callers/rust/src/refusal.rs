@@ -37,15 +37,15 @@ impl Refusal {
 
     fn meaning(self) -> &'static str {
         match self {
-            Refusal::CoordinateOutsideLimits => "a coordinate is outside its limits",
+            Refusal::CoordinateOutsideLimits => {
+                "a point lies more than 200 m east, west, north or south of the peg"
+            }
             Refusal::WrongLength => {
                 "a list has an x without its y, or fewer than 3 points, or over 1,024"
             }
             Refusal::MapOutsideLimits => "a number of a map is outside its limits",
             Refusal::TotalsOutsideBounds => "a total handed to a map is larger than any outline's",
-            Refusal::MappedOutsideLimits => {
-                "a total after the map would be greater in size than 10^18"
-            }
+            Refusal::MappedOutsideLimits => "a total after the map would pass 10^18 in size",
             Refusal::CentreOutsideLimits => {
                 "the totals or sums that a centre is wanted of are outside their limits"
             }
