@@ -1,7 +1,7 @@
 -- Whether d × v is over a limit, from the tests of d and of v alone: never where d is 0; else always where v is over it. Where v is not, the product fits 64 bits.
 use mathlib.Core.Path.{_≡_, refl}
 use mathlib.Core.Bool.{true, false}
-use Prim.Native.Nat.{ℕ, zero, suc, _<_, _≤_, _*_, _^_}
+use Prim.Native.Nat.{ℕ, zero, suc, _<_, _≤_, _*_}
 use native.Mathlib.Nat as NatL
 use native.Mathlib.Omega.{arith}
 use lib.IntN.{ℤ, pos, negsuc, natAbs, _*ℤ_, zero-*ℤ}
@@ -11,6 +11,7 @@ use mir.Val.{SFits}
 use Rattle.integers.proofs.Order.{natAbs-mul}
 use Rattle.integers.proofs.Bounds.{natAbs-sfits}
 use Rattle.outline.specs.EdgeSums.{over}
+use Rattle.outline.specs.MapCall.{totalLimit}
 use Rattle.outline.proofs.Limits.{over-not}
 
 pub zero-not-over : (n : ℕ) {d : ℤ} (v : ℤ) → d ≡ pos 0 → over n (d *ℤ v) ≡ false
@@ -26,5 +27,5 @@ pub over-times : (n : ℕ) (d v : ℤ) → (d ≡ pos 0 → ⊥) → over n v �
 unfolding over
 over-times n d v h e = lt-ltb n (natAbs (d *ℤ v)) (rw (natAbs-mul d v) (omega (arith, ltb-true n (natAbs v) e, NatL.mul-le-mul-right (natAbs v) (nonzero d h))))
 
-pub product-fits : (d v : ℤ) → natAbs d ≤ 8 → over (10 ^ 18) v ≡ false → SFits w64 (d *ℤ v)
-product-fits d v h e = natAbs-sfits (rw (natAbs-mul d v) (omega (arith, NatL.mul-le-mul h (over-not (10 ^ 18) v e))))
+pub product-fits : (d v : ℤ) → natAbs d ≤ 8 → over totalLimit v ≡ false → SFits w64 (d *ℤ v)
+product-fits d v h e = natAbs-sfits (rw (natAbs-mul d v) (omega (arith, NatL.mul-le-mul h (over-not totalLimit v e))))

@@ -2,12 +2,13 @@
 use Prim.Native.Nat.{_≤_}
 use lib.IntN.{ℤ, natAbs}
 use Rattle.outline.specs.declared.AffineMap.{AffineMap}
+use Rattle.outline.specs.MapCall.{coefficientLimit, shiftLimit}
 
 -- The two coefficients and the shift of one coordinate are within the limits of 3.
 pub record RowWithin (a b e : ℤ) : Type 0 where
-  pub first : natAbs a ≤ 2
-  pub second : natAbs b ≤ 2
-  pub shift : natAbs e ≤ 2000
+  pub first : natAbs a ≤ coefficientLimit
+  pub second : natAbs b ≤ coefficientLimit
+  pub shift : natAbs e ≤ shiftLimit
 
 pub record MapWithin (m : AffineMap) : Type 0 where
   pub u : RowWithin (m .a) (m .b) (m .e)

@@ -4,9 +4,10 @@ ghost use mathlib.Core.Bool.{false};
 ghost use Prim.Native.Nat.{_≤_, _^_};
 ghost use lib.IntN.{natAbs, _+ℤ_, _*ℤ_};
 ghost use Rattle.outline.specs.EdgeSums.{over, exceed, Fit, outlineBounds};
-ghost use Rattle.outline.specs.MapCall.{disallowed, determinant, firstMoment, secondMoment, mixedMoment, brackets, scaled, totalLimits, mapCall};
+ghost use Rattle.outline.specs.MapCall.{disallowed, determinant, firstMoment, secondMoment, mixedMoment, brackets, scaled, totalLimit, totalLimits, mapCall};
 ghost use Rattle.affine.specs.Answer.{reading};
 ghost use Rattle.affine.specs.Limits.{RowWithin, MapWithin};
+use limits::TOTAL_LIMIT;
 use limits::size_exceeds;
 
 // The mapped totals; or refusal 3, 4 or 5, in this order.
@@ -31,19 +32,21 @@ impl MapAnswer {
     }
 }
 
-// The limit of a mapped total, by size.
-const TOTAL_LIMIT: u64 = 1_000_000_000_000_000_000;
+// The limits of a map's coefficients a, b, g, h and of its shifts e, f, by size.
+const COEFFICIENT_LIMIT: u64 = 2;
+
+const SHIFT_LIMIT: u64 = 2000;
 
 // Refusal 3. All six tests are made and joined by `|`, so the code has one way through and no branch.
 fn map_outside_limits(m: outline::AffineMap) -> bool
     ensures { λ r. ⌜ r ≡ disallowed m ⌝ }
 {
-    size_exceeds(m.a as i64, 2)
-        | size_exceeds(m.b as i64, 2)
-        | size_exceeds(m.g as i64, 2)
-        | size_exceeds(m.h as i64, 2)
-        | size_exceeds(m.e as i64, 2000)
-        | size_exceeds(m.f as i64, 2000)
+    size_exceeds(m.a as i64, COEFFICIENT_LIMIT)
+        | size_exceeds(m.b as i64, COEFFICIENT_LIMIT)
+        | size_exceeds(m.g as i64, COEFFICIENT_LIMIT)
+        | size_exceeds(m.h as i64, COEFFICIENT_LIMIT)
+        | size_exceeds(m.e as i64, SHIFT_LIMIT)
+        | size_exceeds(m.f as i64, SHIFT_LIMIT)
 }
 
 fn map_determinant(m: outline::AffineMap) -> i64
@@ -128,7 +131,7 @@ fn bracket_totals(m: outline::AffineMap, t: outline::Totals) -> outline::Totals
 // Whether d × v is over the limit. Times 8, a bracket may not fit 64 bits, so the product is made only of one within the limit.
 fn product_over(d: i64, v: i64) -> bool
     requires { ⌜ natAbs d ≤ 8 ⌝ }
-    ensures { λ r. ⌜ r ≡ over (10 ^ 18) (d *ℤ v) ⌝ }
+    ensures { λ r. ⌜ r ≡ over totalLimit (d *ℤ v) ⌝ }
 {
     if d == 0 {
         return false;

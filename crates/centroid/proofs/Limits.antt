@@ -1,5 +1,5 @@
 -- Totals and sums that 11 and 27 do not refuse give a quotient whose steps fit 64 bits, over a D above 0.
-use Prim.Native.Nat.{ℕ, _^_, _≤_}
+use Prim.Native.Nat.{ℕ, _≤_}
 use mathlib.Core.Path.{_≡_, sym, subst₂}
 use mathlib.Core.Bool.{Bool, true, false}
 use mathlib.Core.List.{[], _∷_}
@@ -13,6 +13,7 @@ use Rattle.integers.proofs.Order.{orders, natAbs-parts, lt-parts, lt-false, lt-
 use Rattle.integers.proofs.Linear.{→<}
 use Rattle.integers.proofs.Bounds.{within}
 use Rattle.integers.proofs.Flags.{or-left, or-right, none-of-six}
+use Rattle.outline.specs.MapCall.{totalLimit}
 use Rattle.centroid.specs.declared.CellSums.{CellSums}
 use Rattle.centroid.specs.Centroid.{outsideLimit, sumsOutside, centred}
 use Rattle.centroid.specs.Answers.{QuotientBounds}
@@ -28,20 +29,20 @@ not-outside n z e =
 pub record SumsWithin (s : CellSums) : Type 0 where
   pub sign : pos 0 ≤ℤ s .count
   pub count : natAbs (s .count) ≤ 1_048_576
-  pub x : natAbs (s .x) ≤ 10 ^ 18
-  pub y : natAbs (s .y) ≤ 10 ^ 18
+  pub x : natAbs (s .x) ≤ totalLimit
+  pub y : natAbs (s .y) ≤ totalLimit
 
 pub sums-within : (s : CellSums) → sumsOutside s ≡ false → SumsWithin s
 unfolding sumsOutside
 sums-within s e =
-    let o : ℤ → Bool = outsideLimit (pos (10 ^ 18)) in
+    let o : ℤ → Bool = outsideLimit (pos totalLimit) in
     let f = none-of-six (outsideLimit (pos 1_048_576) (s .count)) (o (s .x)) (o (s .y)) (o (s .xx)) (o (s .xy)) (o (s .yy)) e in
     let k = not-outside 1_048_576 (s .count) (f .0) in
-    record { sign = k .0; count = k .1; x = not-outside (10 ^ 18) (s .x) (f .1) .1; y = not-outside (10 ^ 18) (s .y) (f .2) .1 }
+    record { sign = k .0; count = k .1; x = not-outside totalLimit (s .x) (f .1) .1; y = not-outside totalLimit (s .y) (f .2) .1 }
 
 -- ---- the bounds
 
-module _ (n a : ℤ) (hn : natAbs n ≤ 10 ^ 18) (ha : natAbs a ≤ 10 ^ 18) (some : eqb (natAbs a) 0 ≡ false) where
+module _ (n a : ℤ) (hn : natAbs n ≤ totalLimit) (ha : natAbs a ≤ totalLimit) (some : eqb (natAbs a) 0 ≡ false) where
   -- an area above 0 as D itself
   pub bounds : pos 0 ≤ℤ a → QuotientBounds n a
   bounds h = record { dividend = hn; divisor = omega arith; above = omega (orders, natAbs-parts a, nonneg h, eqb-false (natAbs a) 0 some) }
@@ -52,7 +53,7 @@ module _ (n a : ℤ) (hn : natAbs n ≤ 10 ^ 18) (ha : natAbs a ≤ 10 ^ 18) (so
       let p = bounds (lt-false a (pos 0) e) .above in
       record {
         dividend = hn;
-        divisor = within (a ∷ []) (10 ^ 18 ∷ []) (ha, tt) (pos 3 *ℤ a) (search quote depth 20) tt;
+        divisor = within (a ∷ []) (totalLimit ∷ []) (ha, tt) (pos 3 *ℤ a) (search quote depth 20) tt;
         above = →< (a ∷ []) (search quote depth 20) (search quote depth 20) (omega (arith, lt-parts p));
       }
 
@@ -60,8 +61,8 @@ module _ (n a : ℤ) (hn : natAbs n ≤ 10 ^ 18) (ha : natAbs a ≤ 10 ^ 18) (so
   pub bounds-below : ltZ a (pos 0) ≡ true → QuotientBounds (negℤ n) (negℤ (pos 3 *ℤ a))
   bounds-below e =
       record {
-        dividend = within (n ∷ []) (10 ^ 18 ∷ []) (hn, tt) (negℤ n) (search quote depth 20) tt;
-        divisor = within (a ∷ []) (10 ^ 18 ∷ []) (ha, tt) (negℤ (pos 3 *ℤ a)) (search quote depth 20) tt;
+        dividend = within (n ∷ []) (totalLimit ∷ []) (hn, tt) (negℤ n) (search quote depth 20) tt;
+        divisor = within (a ∷ []) (totalLimit ∷ []) (ha, tt) (negℤ (pos 3 *ℤ a)) (search quote depth 20) tt;
         above = →< (a ∷ []) (search quote depth 20) (search quote depth 20) (omega (arith, lt-parts (lt-true a (pos 0) e)));
       }
 

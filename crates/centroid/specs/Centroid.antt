@@ -1,12 +1,12 @@
 -- Document 01, "Centre" and the refusals 11 and 27: the centre of outline totals and of cell sums.
-use Prim.Native.Nat.{ℕ, zero, suc, _*_, _^_}
+use Prim.Native.Nat.{ℕ, zero, suc, _*_}
 use mathlib.Core.Bool.{Bool, _&&_, _||_, cond}
 use lib.Dec.{eqb}
 use lib.IntN.{ℤ, pos, negℤ, natAbs, _+ℤ_, _-ℤ_, _*ℤ_}
 use lib.Signed.{leZ, ltZ}
 use Rattle.outline.specs.declared.Totals.{Totals}
 use Rattle.outline.specs.EdgeSums.{exceed}
-use Rattle.outline.specs.MapCall.{totalLimits}
+use Rattle.outline.specs.MapCall.{totalLimit, totalLimits}
 use Rattle.centroid.specs.declared.CellSums.{CellSums}
 
 -- ---- the quotient of N and D, rounded to a whole number
@@ -44,7 +44,7 @@ centred nx ny d = record { number = 0; x = centre nx d; y = centre ny d }
 unfoldable pub signedBy : ℤ → ℤ → ℤ
 signedBy a2 z = cond (ltZ a2 (pos 0)) (negℤ z) z
 
--- Refusal 11: a total is greater in size than 10^18. Refusal 27: A2 is 0. Order: 11, 27.
+-- Refusal 11: a total is over its limit. Refusal 27: A2 is 0. Order: 11, 27.
 -- Else the quotients of an outline or a sheet: a first moment over three times the area total, signs turned so that the divisor is above 0.
 unfoldable pub outlineCentroidCall : Totals → CentroidOutcome
 outlineCentroidCall t =
@@ -56,15 +56,15 @@ outlineCentroidCall t =
 unfoldable pub outsideLimit : ℤ → ℤ → Bool
 outsideLimit limit z = ltZ z (pos 0) || ltZ limit z
 
--- Refusal 11 for cell sums: A is over 1,048,576, another sum is over 10^18, or any of the six is negative.
+-- Refusal 11 for cell sums: A is over 1,048,576, another sum is over the limit of a total, or any of the six is negative.
 unfoldable pub sumsOutside : CellSums → Bool
 sumsOutside s =
     outsideLimit (pos 1_048_576) (s .count)
-    || outsideLimit (pos (10 ^ 18)) (s .x)
-    || outsideLimit (pos (10 ^ 18)) (s .y)
-    || outsideLimit (pos (10 ^ 18)) (s .xx)
-    || outsideLimit (pos (10 ^ 18)) (s .xy)
-    || outsideLimit (pos (10 ^ 18)) (s .yy)
+    || outsideLimit (pos totalLimit) (s .x)
+    || outsideLimit (pos totalLimit) (s .y)
+    || outsideLimit (pos totalLimit) (s .xx)
+    || outsideLimit (pos totalLimit) (s .xy)
+    || outsideLimit (pos totalLimit) (s .yy)
 
 -- The quotients of cells: the sum of an index over the number of cells; 27 where there are none, after 11.
 unfoldable pub regionCentroidCall : CellSums → CentroidOutcome

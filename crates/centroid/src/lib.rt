@@ -33,8 +33,8 @@ impl CentroidAnswer {
     }
 }
 
-// The limit of a total, by size, and of a cell sum other than A.
-const TOTAL_LIMIT: i64 = 1_000_000_000_000_000_000;
+// The limit of a cell sum other than A.
+const SUM_LIMIT: i64 = limits::TOTAL_LIMIT as i64;
 
 // The limit of A: the cells of 1,024 rows and 1,024 columns.
 const CELL_LIMIT: i64 = 1_048_576;
@@ -91,11 +91,11 @@ fn sums_outside(s: CellSums) -> bool
     ensures { λ r. ⌜ r ≡ sumsOutside s ⌝ }
 {
     let count = outside_limit(s.count, CELL_LIMIT);
-    let x = outside_limit(s.x, TOTAL_LIMIT);
-    let y = outside_limit(s.y, TOTAL_LIMIT);
-    let xx = outside_limit(s.xx, TOTAL_LIMIT);
-    let xy = outside_limit(s.xy, TOTAL_LIMIT);
-    let yy = outside_limit(s.yy, TOTAL_LIMIT);
+    let x = outside_limit(s.x, SUM_LIMIT);
+    let y = outside_limit(s.y, SUM_LIMIT);
+    let xx = outside_limit(s.xx, SUM_LIMIT);
+    let xy = outside_limit(s.xy, SUM_LIMIT);
+    let yy = outside_limit(s.yy, SUM_LIMIT);
     count | x | y | xx | xy | yy
 }
 

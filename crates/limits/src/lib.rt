@@ -7,6 +7,9 @@ use outline::Position;
 use outline::Sizes;
 use outline::Totals;
 
+// The limit of a sheet's totals, of a mapped total and of one that a centre is asked of, by size; and of a cell sum.
+pub const TOTAL_LIMIT: u64 = 1_000_000_000_000_000_000;
+
 // Whether z is greater in size than the bound. Two comparisons: the least i64 has no absolute value.
 pub fn size_exceeds(z: i64, bound: u64) -> bool
     ensures { λ r. ⌜ r ≡ over bound z ⌝ }
@@ -58,18 +61,16 @@ fn outline_bounds() -> Sizes
     }
 }
 
-// The limits of a sheet's totals, of a mapped total and of totals that a centre is wanted from.
 fn total_limits() -> Sizes
     ensures { λ r. ⌜ r ≡ totalLimits ⌝ }
 {
-    let limit = 1_000_000_000_000_000_000;
     Sizes {
-        a2: limit,
-        x6: limit,
-        y6: limit,
-        xx12: limit,
-        xy24: limit,
-        yy12: limit,
+        a2: TOTAL_LIMIT,
+        x6: TOTAL_LIMIT,
+        y6: TOTAL_LIMIT,
+        xx12: TOTAL_LIMIT,
+        xy24: TOTAL_LIMIT,
+        yy12: TOTAL_LIMIT,
     }
 }
 

@@ -1,5 +1,5 @@
 -- Document 01, "Maps" and the refusals 3, 4 and 5: affine maps of positions and of totals, and the outcome of the map call.
-use Prim.Native.Nat.{_^_}
+use Prim.Native.Nat.{ℕ, _^_}
 use mathlib.Core.Bool.{Bool, _||_, cond}
 use mathlib.Core.List.{List, map}
 use lib.IntN.{ℤ, pos, _+ℤ_, _-ℤ_, _*ℤ_}
@@ -21,9 +21,16 @@ movePoint m p =
 abbrev pub moved : AffineMap → List Position → List Position
 moved m ps = map (movePoint m) ps
 
--- Refusal 3: a coefficient is greater in size than 2, or a shift than 2,000.
+-- The limits of a map's coefficients a, b, g, h and of its shifts e, f, by size.
+abbrev pub coefficientLimit : ℕ
+coefficientLimit = 2
+
+abbrev pub shiftLimit : ℕ
+shiftLimit = 2000
+
+-- Refusal 3: a coefficient or a shift is greater in size than its limit.
 unfoldable pub disallowed : AffineMap → Bool
-disallowed m = over 2 (m .a) || over 2 (m .b) || over 2 (m .g) || over 2 (m .h) || over 2000 (m .e) || over 2000 (m .f)
+disallowed m = over coefficientLimit (m .a) || over coefficientLimit (m .b) || over coefficientLimit (m .g) || over coefficientLimit (m .h) || over shiftLimit (m .e) || over shiftLimit (m .f)
 
 -- The determinant, d = a×h − b×g.
 abbrev pub determinant : AffineMap → ℤ
@@ -71,9 +78,12 @@ scaled d t =
 abbrev pub mapped : AffineMap → Totals → Totals
 mapped m t = scaled (determinant m) (brackets m t)
 
--- The limits of a mapped total, and of a sheet's: 10^18 in size.
+-- The limit of a mapped total, of a sheet's and of one that a centre is asked of, by size.
+abbrev pub totalLimit : ℕ
+totalLimit = 10 ^ 18
+
 abbrev pub totalLimits : Sizes
-totalLimits = record { a2 = 10 ^ 18; x6 = 10 ^ 18; y6 = 10 ^ 18; xx12 = 10 ^ 18; xy24 = 10 ^ 18; yy12 = 10 ^ 18 }
+totalLimits = record { a2 = totalLimit; x6 = totalLimit; y6 = totalLimit; xx12 = totalLimit; xy24 = totalLimit; yy12 = totalLimit }
 
 -- 3 looks at the map, then 4 at the totals that the call is given, by the outline bounds, then 5 at those that it would answer.
 unfoldable pub mapCall : AffineMap → Totals → Outcome

@@ -1,6 +1,5 @@
 -- `product_over` tests d × v by the laws of `ProductTest`, and makes the product only where it fits.
 use mathlib.Core.Path.{_≡_, sym, _∙_, ap, subst}
-use Prim.Native.Nat.{_^_}
 use lib.IntN.{pos, _*ℤ_}
 use mir.Syntax.{w64}
 use mir.Val.{SFits, ofZ}
@@ -8,6 +7,7 @@ use mir.Facts.{toZ-ofZ, sfits-lit}
 use borrow.Author.Needs.{needs}
 use Rattle.integers.proofs.SignedCode.{bits-equal}
 use Rattle.outline.specs.EdgeSums.{over}
+use Rattle.outline.specs.MapCall.{totalLimit}
 use Rattle.affine.proofs.Fields.{product-read}
 use Rattle.integers.proofs.Flags.{of-field}
 use Rattle.affine.proofs.ProductTest.{zero-not-over, over-times, product-fits}
@@ -17,12 +17,12 @@ use Rattle.affine.proofs.product_over.Tie as tie
 returns : tie.Need-returns
 returns c =
     let s = c .before in
-    sym (zero-not-over (10 ^ 18) (s .args .v) (bits-equal w64 (s .args .d) (pos 0) (s .fits .d) (sfits-lit tt) (c .if1 .taken)))
+    sym (zero-not-over totalLimit (s .args .v) (bits-equal w64 (s .args .d) (pos 0) (s .fits .d) (sfits-lit tt) (c .if1 .taken)))
 
 returns-2 : tie.Need-returns-2
 returns-2 c =
     let s = c .before .before .before in
-    sym (over-times (10 ^ 18) (s .args .d) (s .args .v) (λ e. c .before .before .if1 .left (ap (ofZ w64) e)) (sym (of-field (over _) _ (c .before .size-exceeds .ensures) (toZ-ofZ (s .fits .v))) ∙ c .if2 .taken))
+    sym (over-times totalLimit (s .args .d) (s .args .v) (λ e. c .before .before .if1 .left (ap (ofZ w64) e)) (sym (of-field (over _) _ (c .before .size-exceeds .ensures) (toZ-ofZ (s .fits .v))) ∙ c .if2 .taken))
 
 fits : (c : tie.Else2) → SFits w64 (c .before .before .before .args .d *ℤ c .before .before .before .args .v)
 fits c =

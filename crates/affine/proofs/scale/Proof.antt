@@ -1,6 +1,6 @@
 -- `scale` multiplies each of the six by d. By its bounds every product fits.
 use mathlib.Core.Path.{_≡_, sym, _∙_, subst}
-use Prim.Native.Nat.{_≤_, _^_}
+use Prim.Native.Nat.{_≤_}
 use native.Mathlib.Omega.{arith}
 use lib.IntN.{ℤ, natAbs, _*ℤ_}
 use mir.Syntax.{w64}
@@ -8,6 +8,7 @@ use mir.Val.{SFits, toZ, ofZ}
 use mir.Facts.{toZ-ofZ}
 use borrow.Author.Needs.{needs}
 use Rattle.integers.proofs.Bounds.{natAbs-sfits}
+use Rattle.outline.specs.MapCall.{totalLimit}
 use Rattle.affine.proofs.Fields.{TotalsFit, product-read}
 use Rattle.affine.proofs.scale.Statement.{statement}
 use Rattle.affine.proofs.scale.Tie as tie
@@ -16,7 +17,7 @@ fit : (s : tie.Start) → TotalsFit (s .args .s)
 fit s = search needs
 
 -- one product, as the code reads its factors
-module _ (s : tie.Start) {z : ℤ} (k : SFits w64 z) (h : natAbs (s .args .d *ℤ z) ≤ 10 ^ 18) where
+module _ (s : tie.Start) {z : ℤ} (k : SFits w64 z) (h : natAbs (s .args .d *ℤ z) ≤ totalLimit) where
   fits : SFits w64 (toZ w64 (ofZ w64 (s .args .d)) *ℤ toZ w64 (ofZ w64 z))
   fits = subst (SFits w64) (sym (product-read (s .fits .d) k)) (natAbs-sfits (omega arith))
 

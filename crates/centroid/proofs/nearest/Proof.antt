@@ -1,5 +1,5 @@
 -- `centroid::nearest` meets its contract: every step fits by the bounds, and (2n + d) / 2d rounded down is the centre.
-use Prim.Native.Nat.{ℕ, _*_, _^_}
+use Prim.Native.Nat.{ℕ, _*_}
 use mathlib.Core.Bool.{true, false}
 use mathlib.Core.List.{List, [], _∷_}
 use native.Mathlib.Omega.{arith}
@@ -11,6 +11,7 @@ use Rattle.integers.proofs.Order.{lt-parts}
 use Rattle.integers.proofs.Linear.{→<}
 use Rattle.integers.proofs.Bounds.{Within}
 use Rattle.integers.proofs.SignedCode.{code, test, tested, runs, run-fits, run-divisor}
+use Rattle.outline.specs.MapCall.{totalLimit}
 use Rattle.centroid.proofs.CentreLaw.{rounded-down}
 use Rattle.centroid.proofs.nearest.Statement.{statement}
 use Rattle.centroid.proofs.nearest.Tie as tie
@@ -19,7 +20,7 @@ abbrev ρ : tie.Start → List ℤ
 ρ s = s .args .n ∷ s .args .d ∷ []
 
 abbrev B : List ℕ
-B = 10 ^ 18 ∷ 3 * 10 ^ 18 ∷ []
+B = totalLimit ∷ 3 * totalLimit ∷ []
 
 small : (s : tie.Start) → Within (ρ s) B
 small s = (s .pre .dividend, (s .pre .divisor, tt))

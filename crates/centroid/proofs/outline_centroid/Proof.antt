@@ -1,6 +1,6 @@
 -- `centroid::outline_centroid` meets its contract: each return is the case of the definition that its tests lead to.
 use borrow.Author.Needs.{needs}
-use Prim.Native.Nat.{ℕ, _^_, _≤_}
+use Prim.Native.Nat.{ℕ, _≤_}
 use mathlib.Core.Path.{_≡_, sym, _∙_}
 use mathlib.Core.Bool.{true, false}
 use mathlib.Core.List.{List, [], _∷_}
@@ -13,7 +13,7 @@ use Rattle.integers.proofs.Bounds.{Within}
 use Rattle.integers.proofs.SignedCode.{code, runs, run-fits}
 use Rattle.outline.specs.declared.Totals.{Totals}
 use Rattle.outline.specs.EdgeSums.{exceed}
-use Rattle.outline.specs.MapCall.{totalLimits}
+use Rattle.outline.specs.MapCall.{totalLimit, totalLimits}
 use Rattle.outline.proofs.Limits.{exceed-fit}
 use Rattle.centroid.specs.Centroid.{outlineCentroidCall, signedBy}
 use Rattle.centroid.specs.Answers.{QuotientBounds, reading}
@@ -30,7 +30,7 @@ abbrev ρ : tie.Start → List ℤ
 ρ s = s .args .t .a2 ∷ s .args .t .x6 ∷ s .args .t .y6 ∷ []
 
 abbrev B : List ℕ
-B = 10 ^ 18 ∷ 10 ^ 18 ∷ 10 ^ 18 ∷ []
+B = totalLimit ∷ totalLimit ∷ totalLimit ∷ []
 
 module _ (s : tie.Start) where
   a2-held : held (s .args .t .a2) ≡ s .args .t .a2
@@ -106,7 +106,7 @@ centre-at-requires c κs =
     let i = c .before .before .before .before .before .before .before .before .before .before .before .before in
     let t = totals i in
     let k = exceed-fit totalLimits t (inside i) in
-    let b : (n : ℤ) → natAbs n ≤ 10 ^ 18 → QuotientBounds (negℤ n) (negℤ (pos 3 *ℤ t .a2)) = λ n h. bounds-below n (t .a2) h (k .a2) (some (c .before .before .before .before .before .before .before .before .before)) (below (c .before .before .before .before .before .before)) in
+    let b : (n : ℤ) → natAbs n ≤ totalLimit → QuotientBounds (negℤ n) (negℤ (pos 3 *ℤ t .a2)) = λ n h. bounds-below n (t .a2) h (k .a2) (some (c .before .before .before .before .before .before .before .before .before)) (below (c .before .before .before .before .before .before)) in
     (same-bounds (x6-negated i) (tripled-negated i) (b (t .x6) (k .x6)), same-bounds (y6-negated i) (tripled-negated i) (b (t .y6) (k .y6)))
 
 returns-3 : tie.Need-returns-3
@@ -124,7 +124,7 @@ centre-at-requires-2 c κs =
     let s = i .before .before in
     let t = totals i in
     let k = exceed-fit totalLimits t (inside i) in
-    let b : (n : ℤ) → natAbs n ≤ 10 ^ 18 → QuotientBounds n (pos 3 *ℤ t .a2) = λ n h. bounds-above n (t .a2) h (k .a2) (some (c .before .before .before .before .before .before .before)) (above (c .before .before .before .before)) in
+    let b : (n : ℤ) → natAbs n ≤ totalLimit → QuotientBounds n (pos 3 *ℤ t .a2) = λ n h. bounds-above n (t .a2) h (k .a2) (some (c .before .before .before .before .before .before .before)) (above (c .before .before .before .before)) in
     (same-bounds (x6-held s) (tripled i) (b (t .x6) (k .x6)), same-bounds (y6-held s) (tripled i) (b (t .y6) (k .y6)))
 
 returns-4 : tie.Need-returns-4

@@ -1,6 +1,6 @@
 -- `centroid::region_centroid` meets its contract: each return is the case of the definition that its tests lead to.
 use borrow.Author.Needs.{needs}
-use Prim.Native.Nat.{_^_, _≤_}
+use Prim.Native.Nat.{_≤_}
 use mathlib.Core.Path.{_≡_, sym, _∙_}
 use mathlib.Core.Bool.{false}
 use native.Mathlib.Omega.{arith}
@@ -8,6 +8,7 @@ use lib.Dec.{eqb}
 use lib.IntN.{ℤ, natAbs}
 use mir.Syntax.{w64}
 use mir.Val.{toZ, ofZ}
+use Rattle.outline.specs.MapCall.{totalLimit}
 use Rattle.centroid.specs.declared.CellSums.{CellSums}
 use Rattle.centroid.specs.Centroid.{sumsOutside, regionCentroidCall}
 use Rattle.centroid.specs.Answers.{QuotientBounds, reading}
@@ -57,7 +58,7 @@ centre-at-requires c κs =
     let i = c .before .before .before .before .before .before in
     let s = i .before .before in
     let k = sums-within (sums i) (inside i) in
-    let b : (n : ℤ) → natAbs n ≤ 10 ^ 18 → QuotientBounds n (sums i .count) = λ n h. bounds n (sums i .count) h (omega (arith, k .count)) (some (c .before .before .before)) (k .sign) in
+    let b : (n : ℤ) → natAbs n ≤ totalLimit → QuotientBounds n (sums i .count) = λ n h. bounds n (sums i .count) h (omega (arith, k .count)) (some (c .before .before .before)) (k .sign) in
     (same-bounds (x-held s) (count-held s) (b (sums i .x) (k .x)), same-bounds (y-held s) (count-held s) (b (sums i .y) (k .y)))
 
 returns-3 : tie.Need-returns-3

@@ -1,8 +1,8 @@
 -- `sums_outside`: the six tests of the definition, each on the field as it is read back.
 use borrow.Author.Needs.{needs}
-use Prim.Native.Nat.{_^_}
 use lib.IntN.{pos}
 use Rattle.integers.proofs.Flags.{of-field}
+use Rattle.outline.specs.MapCall.{totalLimit}
 use Rattle.centroid.specs.Centroid.{outsideLimit, sumsOutside}
 use Rattle.centroid.proofs.sums_outside.Statement.{statement}
 use Rattle.centroid.proofs.sums_outside.Tie as tie
@@ -31,11 +31,11 @@ returns c =
     let s = c .before .before .before .before .before .before .before .before .before .before .before .before in
     rw (
       of-field (outsideLimit (pos 1_048_576)) (s .args .s .count) (c .before .before .before .before .before .before .before .before .before .before .outside-limit .ensures) (search needs),
-      of-field (outsideLimit (pos (10 ^ 18))) (s .args .s .x) (c .before .before .before .before .before .before .before .before .outside-limit2 .ensures) (search needs),
-      of-field (outsideLimit (pos (10 ^ 18))) (s .args .s .y) (c .before .before .before .before .before .before .outside-limit3 .ensures) (search needs),
-      of-field (outsideLimit (pos (10 ^ 18))) (s .args .s .xx) (c .before .before .before .before .outside-limit4 .ensures) (search needs),
-      of-field (outsideLimit (pos (10 ^ 18))) (s .args .s .xy) (c .before .before .outside-limit5 .ensures) (search needs),
-      of-field (outsideLimit (pos (10 ^ 18))) (s .args .s .yy) (c .outside-limit6 .ensures) (search needs),
+      of-field (outsideLimit (pos totalLimit)) (s .args .s .x) (c .before .before .before .before .before .before .before .before .outside-limit2 .ensures) (search needs),
+      of-field (outsideLimit (pos totalLimit)) (s .args .s .y) (c .before .before .before .before .before .before .outside-limit3 .ensures) (search needs),
+      of-field (outsideLimit (pos totalLimit)) (s .args .s .xx) (c .before .before .before .before .outside-limit4 .ensures) (search needs),
+      of-field (outsideLimit (pos totalLimit)) (s .args .s .xy) (c .before .before .outside-limit5 .ensures) (search needs),
+      of-field (outsideLimit (pos totalLimit)) (s .args .s .yy) (c .outside-limit6 .ensures) (search needs),
     )
 
 pub sums-outside-spec : {M : Type 1} → statement M
