@@ -13,6 +13,7 @@ use Rattle.integers.proofs.Bounds.{natAbs-sfits}
 use Rattle.outline.specs.EdgeSums.{over}
 use Rattle.outline.specs.MapCall.{totalLimit}
 use Rattle.outline.proofs.Limits.{over-not}
+use Rattle.affine.specs.private.Limits.{AtMost}
 
 pub zero-not-over : (n : ℕ) {d : ℤ} (v : ℤ) → d ≡ pos 0 → over n (d *ℤ v) ≡ false
 unfolding over
@@ -27,5 +28,5 @@ pub over-times : (n : ℕ) (d v : ℤ) → (d ≡ pos 0 → ⊥) → over n v �
 unfolding over
 over-times n d v h e = lt-ltb n (natAbs (d *ℤ v)) (rw (natAbs-mul d v) (omega (arith, ltb-true n (natAbs v) e, NatL.mul-le-mul-right (natAbs v) (nonzero d h))))
 
-pub product-fits : (d v : ℤ) → natAbs d ≤ 8 → over totalLimit v ≡ false → SFits w64 (d *ℤ v)
-product-fits d v h e = natAbs-sfits (rw (natAbs-mul d v) (omega (arith, NatL.mul-le-mul h (over-not totalLimit v e))))
+pub product-fits : (d v : ℤ) → AtMost 8 d → over totalLimit v ≡ false → SFits w64 (d *ℤ v)
+product-fits d v h e = natAbs-sfits (rw (natAbs-mul d v) (omega (arith, NatL.mul-le-mul (h .size) (over-not totalLimit v e))))

@@ -1,12 +1,10 @@
 // The map call on six totals: document 01, "Maps", with refusals 3, 4 and 5.
 ghost use mathlib.Core.Path.{_≡_};
-ghost use mathlib.Core.Bool.{false};
-ghost use Prim.Native.Nat.{_≤_, _^_};
-ghost use lib.IntN.{natAbs, _+ℤ_, _*ℤ_};
+ghost use lib.IntN.{_+ℤ_, _*ℤ_};
 ghost use Rattle.outline.specs.EdgeSums.{over, exceed, Fit, outlineBounds};
 ghost use Rattle.outline.specs.MapCall.{disallowed, determinant, firstMoment, secondMoment, mixedMoment, brackets, scaled, totalLimit, totalLimits, mapCall};
 ghost use Rattle.affine.specs.Answer.{reading};
-ghost use Rattle.affine.specs.Limits.{RowWithin, MapWithin};
+ghost use Rattle.affine.specs.private.Limits.{AtMost, RowWithin, MapWithin};
 use limits::TOTAL_LIMIT;
 use limits::size_exceeds;
 
@@ -67,12 +65,12 @@ fn first_moment(a: i64, b: i64, e: i64, t: outline::Totals) -> i64
 
 // The totals added up, each with a weight: at most 5.64·10^18 in size.
 fn weighted(xx12: i64, yy12: i64, xy24: i64, x6: i64, y6: i64, a2: i64, t: outline::Totals) -> i64
-    requires { ⌜ over 8 xx12 ≡ false ⌝ }
-    requires { ⌜ over 8 yy12 ≡ false ⌝ }
-    requires { ⌜ over 8 xy24 ≡ false ⌝ }
-    requires { ⌜ over 32000 x6 ≡ false ⌝ }
-    requires { ⌜ over 32000 y6 ≡ false ⌝ }
-    requires { ⌜ over 48000000 a2 ≡ false ⌝ }
+    requires { ⌜ AtMost 8 xx12 ⌝ }
+    requires { ⌜ AtMost 8 yy12 ⌝ }
+    requires { ⌜ AtMost 8 xy24 ⌝ }
+    requires { ⌜ AtMost 32000 x6 ⌝ }
+    requires { ⌜ AtMost 32000 y6 ⌝ }
+    requires { ⌜ AtMost 48000000 a2 ⌝ }
     requires { ⌜ Fit outlineBounds t ⌝ }
     ensures { λ r. ⌜ r ≡ xx12 *ℤ t .xx12 +ℤ yy12 *ℤ t .yy12 +ℤ xy24 *ℤ t .xy24 +ℤ x6 *ℤ t .x6 +ℤ y6 *ℤ t .y6 +ℤ a2 *ℤ t .a2 ⌝ }
 {
@@ -130,7 +128,7 @@ fn bracket_totals(m: outline::AffineMap, t: outline::Totals) -> outline::Totals
 
 // Whether d × v is over the limit. Times 8, a bracket may not fit 64 bits, so the product is made only of one within the limit.
 fn product_over(d: i64, v: i64) -> bool
-    requires { ⌜ natAbs d ≤ 8 ⌝ }
+    requires { ⌜ AtMost 8 d ⌝ }
     ensures { λ r. ⌜ r ≡ over totalLimit (d *ℤ v) ⌝ }
 {
     if d == 0 {
@@ -144,7 +142,7 @@ fn product_over(d: i64, v: i64) -> bool
 
 // Refusal 5, from the brackets s.
 fn result_outside_limits(d: i64, s: outline::Totals) -> bool
-    requires { ⌜ natAbs d ≤ 8 ⌝ }
+    requires { ⌜ AtMost 8 d ⌝ }
     ensures { λ r. ⌜ r ≡ exceed totalLimits (scaled d s) ⌝ }
 {
     product_over(d, s.a2)

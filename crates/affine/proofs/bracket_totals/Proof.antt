@@ -10,10 +10,44 @@ use borrow.Author.Needs.{needs}
 use Rattle.outline.specs.declared.Totals.{Totals}
 use Rattle.outline.specs.declared.AffineMap.{AffineMap}
 use Rattle.outline.specs.MapCall.{firstMoment, secondMoment, mixedMoment}
-use Rattle.affine.specs.Limits.{RowWithin}
-use Rattle.affine.proofs.Fields.{MapFit, TotalsFit, widens, widened}
+use Rattle.affine.specs.private.Limits.{RowWithin}
+use Rattle.integers.proofs.Widening.{widens, widened}
+use Rattle.limits.proofs.Fields.{TotalsFit}
+use Rattle.affine.proofs.Fields.{MapFit}
 use Rattle.affine.proofs.bracket_totals.Statement.{statement}
 use Rattle.affine.proofs.bracket_totals.Tie as tie
+
+-- the entry, from where each number of the map has been read
+abbrev of-a : tie.After-struct-told → tie.Start
+of-a c = c .before .before
+
+abbrev of-b : tie.After-struct-told2 → tie.Start
+of-b c = of-a (c .before .before)
+
+abbrev of-g : tie.After-struct-told3 → tie.Start
+of-g c = of-b (c .before .before)
+
+abbrev of-h : tie.After-struct-told4 → tie.Start
+of-h c = of-g (c .before .before)
+
+abbrev of-e : tie.After-struct-told5 → tie.Start
+of-e c = of-h (c .before .before)
+
+abbrev of-f : tie.After-struct-told6 → tie.Start
+of-f c = of-e (c .before .before)
+
+-- the entry, from behind each call
+abbrev of-x6 : tie.After-first-moment → tie.Start
+of-x6 c = of-f (c .before)
+
+abbrev of-y6 : tie.After-first-moment2 → tie.Start
+of-y6 c = of-x6 (c .before)
+
+abbrev of-xx12 : tie.After-second-moment → tie.Start
+of-xx12 c = of-y6 (c .before)
+
+abbrev of-xy24 : tie.After-mixed-moment → tie.Start
+of-xy24 c = of-xx12 (c .before)
 
 fit : (s : tie.Start) → MapFit (s .args .m)
 fit s = search needs
@@ -46,36 +80,36 @@ called f e h = toZ-ofZ (record { sfits = h }) ∙ e ∙ f
 
 returns : tie.Need-returns
 returns c =
-    let c5 = c .before in
-    let c4 = c5 .before in
-    let c3 = c4 .before in
-    let c2 = c3 .before in
-    let c1 = c2 .before in
-    let s = c1 .before .before .before .before .before .before .before .before .before .before .before .before .before in
+    let at-yy12 = c .before in
+    let at-xy24 = at-yy12 .before in
+    let at-xx12 = at-xy24 .before in
+    let at-y6 = at-xx12 .before in
+    let at-x6 = at-y6 .before in
+    let s = of-x6 at-x6 in
     let t = s .args .t in
     let k = fit s in
     λ i. record {
       a2 = toZ-ofZ (fit-totals s .a2) i;
-      x6 = called (row-is (λ a b e. firstMoment a b e t) (k .a) (k .b) (k .e)) (c1 .first-moment .ensures) (c1 .first-moment .ok) i;
-      y6 = called (row-is (λ a b e. firstMoment a b e t) (k .g) (k .h) (k .f)) (c2 .first-moment2 .ensures) (c2 .first-moment2 .ok) i;
-      xx12 = called (row-is (λ a b e. secondMoment a b e t) (k .a) (k .b) (k .e)) (c3 .second-moment .ensures) (c3 .second-moment .ok) i;
-      xy24 = called (mixed-is t k) (c4 .mixed-moment .ensures) (c4 .mixed-moment .ok) i;
-      yy12 = called (row-is (λ a b e. secondMoment a b e t) (k .g) (k .h) (k .f)) (c5 .second-moment2 .ensures) (c5 .second-moment2 .ok) i;
+      x6 = called (row-is (λ a b e. firstMoment a b e t) (k .a) (k .b) (k .e)) (at-x6 .first-moment .ensures) (at-x6 .first-moment .ok) i;
+      y6 = called (row-is (λ a b e. firstMoment a b e t) (k .g) (k .h) (k .f)) (at-y6 .first-moment2 .ensures) (at-y6 .first-moment2 .ok) i;
+      xx12 = called (row-is (λ a b e. secondMoment a b e t) (k .a) (k .b) (k .e)) (at-xx12 .second-moment .ensures) (at-xx12 .second-moment .ok) i;
+      xy24 = called (mixed-is t k) (at-xy24 .mixed-moment .ensures) (at-xy24 .mixed-moment .ok) i;
+      yy12 = called (row-is (λ a b e. secondMoment a b e t) (k .g) (k .h) (k .f)) (at-yy12 .second-moment2 .ensures) (at-yy12 .second-moment2 .ok) i;
     }
 
 pub bracket-totals-spec : {M : Type 1} → statement M
 bracket-totals-spec =
     tie.close
     (tie.spec
-    (λ c. widens (fit (c .before .before) .a))
-    (λ c. widens (fit (c .before .before .before .before) .b))
-    (λ c. widens (fit (c .before .before .before .before .before .before) .g))
-    (λ c. widens (fit (c .before .before .before .before .before .before .before .before) .h))
-    (λ c. widens (fit (c .before .before .before .before .before .before .before .before .before .before) .e))
-    (λ c. widens (fit (c .before .before .before .before .before .before .before .before .before .before .before .before) .f))
-    (λ c κs. let s = c .before .before .before .before .before .before .before .before .before .before .before .before in (u-row s, s .pre .1))
-    (λ c κs. let s = c .before .before .before .before .before .before .before .before .before .before .before .before .before in (v-row s, s .pre .1))
-    (λ c κs. let s = c .before .before .before .before .before .before .before .before .before .before .before .before .before .before in (u-row s, s .pre .1))
-    (λ c κs. let s = c .before .before .before .before .before .before .before .before .before .before .before .before .before .before .before in (u-row s, (v-row s, s .pre .1)))
-    (λ c κs. let s = c .before .before .before .before .before .before .before .before .before .before .before .before .before .before .before .before in (v-row s, s .pre .1))
+    (λ c. widens (fit (of-a c) .a))
+    (λ c. widens (fit (of-b c) .b))
+    (λ c. widens (fit (of-g c) .g))
+    (λ c. widens (fit (of-h c) .h))
+    (λ c. widens (fit (of-e c) .e))
+    (λ c. widens (fit (of-f c) .f))
+    (λ c κs. (u-row (of-f c), of-f c .pre .1))
+    (λ c κs. (v-row (of-x6 c), of-x6 c .pre .1))
+    (λ c κs. (u-row (of-y6 c), of-y6 c .pre .1))
+    (λ c κs. (u-row (of-xx12 c), (v-row (of-xx12 c), of-xx12 c .pre .1)))
+    (λ c κs. (v-row (of-xy24 c), of-xy24 c .pre .1))
     returns)

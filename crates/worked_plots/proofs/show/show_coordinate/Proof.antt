@@ -1,6 +1,6 @@
 -- `worked_plots::show::show_coordinate` is safe: 64 bits hold what 32 bits do.
 use borrow.Author.Needs.{needs}
-use Rattle.affine.proofs.Fields.{widens}
+use Rattle.integers.proofs.Widening.{widens}
 use Rattle.worked_plots.proofs.show.show_coordinate.Statement.{statement}
 use Rattle.worked_plots.proofs.show.show_coordinate.Tie as tie
 

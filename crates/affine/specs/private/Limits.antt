@@ -1,8 +1,12 @@
--- The bounds of a map that the private functions rely on, once 3 has been excluded.
-use Prim.Native.Nat.{_≤_}
+-- The bounds that the private functions rely on, once 3 has been excluded.
+use Prim.Native.Nat.{ℕ, _≤_}
 use lib.IntN.{ℤ, natAbs}
 use Rattle.outline.specs.declared.AffineMap.{AffineMap}
 use Rattle.outline.specs.MapCall.{coefficientLimit, shiftLimit}
+
+-- z is at most n in size.
+pub record AtMost (n : ℕ) (z : ℤ) : Type 0 where
+  pub size : natAbs z ≤ n
 
 -- The two coefficients and the shift of one coordinate are within the limits of 3.
 pub record RowWithin (a b e : ℤ) : Type 0 where
