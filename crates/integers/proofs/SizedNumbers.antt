@@ -4,13 +4,14 @@
 use mathlib.Core.Path.{_≡_}
 use mathlib.Core.List.{List, [], _∷_}
 use mathlib.Core.Bool.{Bool}
-use Prim.Native.Nat.{ℕ, _≤_, _^_}
+use Prim.Native.Nat.{ℕ, _<_, _≤_, _^_}
 use lib.Dec.{T, leb, ltb}
-use lib.IntN.{ℤ, natAbs}
+use lib.IntN.{ℤ, pos, natAbs}
+use lib.Signed.{_<ℤ_}
 use mir.Syntax.{Width}
-use mir.Val.{SFits, hbits}
+use mir.Val.{SFits, hbits, toZ}
 use Rattle.integers.proofs.Bounds.{Within}
-use Rattle.integers.proofs.SignedCode.{Code, plain, size, both, steps, runs, run-fits, run-within, Test, plainT, stepsT, tested}
+use Rattle.integers.proofs.SignedCode.{Code, plain, size, both, steps, runs, run-fits, run-within, run-divisor, Test, plainT, stepsT, tested}
 
 pub record Sized : Type 0 where
   pub number : ℤ
@@ -44,6 +45,10 @@ module _ (l : List Sized) where
   -- it is at most K in size
   pub at-most : {z : ℤ} {K : ℕ} (k : Code (numbers l) z) → T (both (leb (size (bounds l) k) K) (steps (bounds l) k)) → natAbs z ≤ K
   at-most k t = run-within (numbers l) (bounds l) (all-within l) k t
+
+  -- a divisor is above 0, by its bits
+  pub divisor : (w : Width) {n : ℕ} (k : Code (numbers l) (toZ w n)) → T (steps (bounds l) k) → pos 0 <ℤ plain k → 0 < n
+  divisor w k t p = run-divisor (numbers l) (bounds l) (all-within l) w k t p
 
   -- a test of the code is the plain test
   pub plain-test : {b v : Bool} → b ≡ v → (k : Test (numbers l) b) → T (stepsT (bounds l) k) → plainT k ≡ v
