@@ -10,6 +10,25 @@ use outline::Totals;
 // The limit of a sheet's totals, of a mapped total and of one that a centre is asked of, by size; and of a cell sum.
 pub const TOTAL_LIMIT: u64 = 1_000_000_000_000_000_000;
 
+const TOTAL_LIMITS: Sizes = Sizes {
+    a2: TOTAL_LIMIT,
+    x6: TOTAL_LIMIT,
+    y6: TOTAL_LIMIT,
+    xx12: TOTAL_LIMIT,
+    xy24: TOTAL_LIMIT,
+    yy12: TOTAL_LIMIT,
+};
+
+// The outline bounds.
+const OUTLINE_BOUNDS: Sizes = Sizes {
+    a2: 8_192_000_000,
+    x6: 32_768_000_000_000,
+    y6: 32_768_000_000_000,
+    xx12: 98_304_000_000_000_000,
+    xy24: 196_608_000_000_000_000,
+    yy12: 98_304_000_000_000_000,
+};
+
 // Whether z is greater in size than the bound. Two comparisons: the least i64 has no absolute value.
 pub fn size_exceeds(z: i64, bound: u64) -> bool
     ensures { λ r. ⌜ r ≡ over bound z ⌝ }
@@ -47,45 +66,16 @@ pub fn totals_exceed(t: Totals, bounds: Sizes) -> bool
     a2 | x6 | y6 | xx12 | xy24 | yy12
 }
 
-// The outline bounds.
-fn outline_bounds() -> Sizes
-    ensures { λ r. ⌜ r ≡ outlineBounds ⌝ }
-{
-    Sizes {
-        a2: 8_192_000_000,
-        x6: 32_768_000_000_000,
-        y6: 32_768_000_000_000,
-        xx12: 98_304_000_000_000_000,
-        xy24: 196_608_000_000_000_000,
-        yy12: 98_304_000_000_000_000,
-    }
-}
-
-fn total_limits() -> Sizes
-    ensures { λ r. ⌜ r ≡ totalLimits ⌝ }
-{
-    Sizes {
-        a2: TOTAL_LIMIT,
-        x6: TOTAL_LIMIT,
-        y6: TOTAL_LIMIT,
-        xx12: TOTAL_LIMIT,
-        xy24: TOTAL_LIMIT,
-        yy12: TOTAL_LIMIT,
-    }
-}
-
 // Whether some total is outside the outline bounds.
 pub fn outside_bounds(t: Totals) -> bool
     ensures { λ r. ⌜ r ≡ exceed outlineBounds t ⌝ }
 {
-    let bounds = outline_bounds();
-    totals_exceed(t, bounds)
+    totals_exceed(t, OUTLINE_BOUNDS)
 }
 
 // Whether some total is larger in size than a sheet may have.
 pub fn outside_limits(t: Totals) -> bool
     ensures { λ r. ⌜ r ≡ exceed totalLimits t ⌝ }
 {
-    let limits = total_limits();
-    totals_exceed(t, limits)
+    totals_exceed(t, TOTAL_LIMITS)
 }
