@@ -1,29 +1,18 @@
 -- A run's sums in closed form are its sums cell by cell, and the sums below k have the code's formulas, by induction and the ring solver.
 use mathlib.Core.Path.{_≡_, refl, sym, _∙_, ap, ap₂}
 use mathlib.Core.List.{[], _∷_}
-use Prim.Native.Nat.{ℕ, zero, suc, _+_, _<_, _≤_, _^_}
+use Prim.Native.Nat.{ℕ, zero, suc, _+_, _<_}
 use native.Mathlib.Nat.{add-zero, mul-div-cancel-left}
 use native.Mathlib.Numerals.{add-one}
 use native.Mathlib.Omega.{arith}
 use lib.IntN.{ℤ, pos, _+ℤ_, _-ℤ_, _*ℤ_, +ℤ-invr}
-use lib.Dec.{T, ltb}
 use lib.Signed.{quotZ}
-use mir.Syntax.{w64}
-use mir.Val.{SFits, hbits}
 use Rattle.integers.proofs.Ring.{ring, quote, given}
-use Rattle.integers.proofs.SignedCode.{Code, both, size, steps, plain, runs, run-fits}
 use Rattle.centroid.specs.declared.CellSums.{CellSums}
-use Rattle.cells.specs.CellSums.{cellsFrom, cellTerms, zeros, plus, sumsOver, indexSum, squareSum}
+use Rattle.cells.specs.CellSums.{cellsFrom, cellTerms, zeros, plus, sumsOver}
+use Rattle.cells.specs.private.SumsBelow.{indexSum, squareSum}
 
 -- ---- the sums below k
-
--- What is computed at 64 bits from a number of at most 1,024.
-module _ (k : ℕ) (h : k ≤ 1024) {z : ℤ} (q : Code (pos k ∷ []) z) where
-  pub column-fits : T (both (ltb (size (1024 ∷ []) q) (2 ^ hbits w64)) (steps (1024 ∷ []) q)) → SFits w64 z
-  column-fits t = run-fits (pos k ∷ []) (1024 ∷ []) (h, tt) q t
-
-  pub column-is : T (steps (1024 ∷ []) q) → z ≡ plain q
-  column-is t = runs (pos k ∷ []) (1024 ∷ []) (h, tt) q t
 
 index-step : (k s : ℤ) → k *ℤ (k -ℤ pos 1) ≡ pos 2 *ℤ s → (k +ℤ pos 1) *ℤ (k +ℤ pos 1 -ℤ pos 1) ≡ pos 2 *ℤ (s +ℤ k)
 index-step k s h = given (pos 1) h (ring (k ∷ s ∷ []) (search quote depth 60 fits 20000) (search quote depth 60 fits 20000) tt)

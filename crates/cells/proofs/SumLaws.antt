@@ -12,9 +12,10 @@ use borrow.Author.Tests.{ltb-false}
 use Rattle.integers.proofs.Order.{natAbs-add}
 use Rattle.centroid.specs.declared.CellSums.{CellSums}
 use Rattle.cells.specs.declared.Run.{Run}
-use Rattle.cells.specs.CellSums.{Cell, cellsFrom, cellsOf, allCells, cellTerms, zeros, plus, sumsOver, regionSums, indexSum, squareSum}
+use Rattle.cells.specs.CellSums.{Cell, cellsFrom, cellsOf, allCells, cellTerms, zeros, plus, sumsOver, regionSums}
 use Rattle.cells.specs.RegionCall.{badRun, anyBad}
 use Rattle.cells.specs.private.Scan.{InGrid, SumsWithin}
+use Rattle.cells.specs.private.SumsBelow.{indexSum, squareSum}
 use Rattle.integers.proofs.Flags.{both-failed}
 
 -- ---- the sums below k

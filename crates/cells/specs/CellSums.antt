@@ -72,15 +72,3 @@ sumsOver (c ∷ cs) = plus (cellTerms c) (sumsOver cs)
 -- A region's sums: over the cells of its runs.
 abbrev pub regionSums : List Run → CellSums
 regionSums rs = sumsOver (allCells rs)
-
--- ---- sums below k, by which a run's sums are computed
-
--- 0 + 1 + .. + (k − 1).
-unfoldable pub indexSum : ℕ → ℕ
-indexSum zero = 0
-indexSum (suc k) = indexSum k + k
-
--- 0² + 1² + .. + (k − 1)².
-unfoldable pub squareSum : ℕ → ℕ
-squareSum zero = 0
-squareSum (suc k) = squareSum k + k * k

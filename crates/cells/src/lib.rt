@@ -3,9 +3,10 @@ ghost use mathlib.Core.Path.{_≡_};
 ghost use mathlib.Core.Bool.{not};
 ghost use Prim.Native.Nat.{_≤_, _^_};
 ghost use lib.IntN.{pos};
-ghost use Rattle.cells.specs.CellSums.{plus, sumsOver, cellsOf, indexSum, squareSum};
+ghost use Rattle.cells.specs.CellSums.{plus, sumsOver, cellsOf};
 ghost use Rattle.cells.specs.RegionCall.{badRun, liesAfter, reading, Answers};
 ghost use Rattle.cells.specs.private.Scan.{noRuns, answerWith, addRun, InGrid, SumsWithin, HasRoom};
+ghost use Rattle.cells.specs.private.SumsBelow.{indexSum, squareSum};
 
 // As many cells of a row as `length`, from the column `first` on. Laid out as in C, whose callers lend lists of them.
 #[repr(C)]

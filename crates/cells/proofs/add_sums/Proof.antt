@@ -1,43 +1,59 @@
 -- `cells::add_sums` meets its contract: the bounds keep each of the six sums within 64 bits.
 use mathlib.Core.Path.{_≡_}
-use mathlib.Core.List.{[], _∷_}
+use mathlib.Core.List.{List, [], _∷_}
 use Prim.Native.Nat.{_≤_, _^_}
 use lib.IntN.{ℤ, natAbs, _+ℤ_}
 use mir.Syntax.{w64}
 use mir.Val.{SFits, toZ, ofZ}
-use Rattle.integers.proofs.SignedCode.{code, runs, run-fits}
+use Rattle.integers.proofs.SignedCode.{code}
+use Rattle.integers.proofs.SizedNumbers.{Sized, sized, fits, is-plain}
 use Rattle.cells.proofs.add_sums.Statement.{statement}
 use Rattle.cells.proofs.add_sums.Tie as tie
 
 module _ (a b : ℤ) (h : natAbs a ≤ 2 ^ 42) (k : natAbs b ≤ 2 ^ 30) where
+  abbrev operands : List Sized
+  operands = sized a h ∷ sized b k ∷ []
+
   sum-fits : SFits w64 (toZ w64 (ofZ w64 a) +ℤ toZ w64 (ofZ w64 b))
-  sum-fits = run-fits (a ∷ b ∷ []) (2 ^ 42 ∷ 2 ^ 30 ∷ []) (h, (k, tt)) (search code depth 40) tt
+  sum-fits = fits operands (search code depth 40) tt
 
   sum-is : toZ w64 (ofZ w64 (toZ w64 (ofZ w64 a) +ℤ toZ w64 (ofZ w64 b))) ≡ a +ℤ b
-  sum-is = runs (a ∷ b ∷ []) (2 ^ 42 ∷ 2 ^ 30 ∷ []) (h, (k, tt)) (search code depth 40) tt
+  sum-is = is-plain operands (search code depth 40) tt
 
-add-t3 : tie.Need-add-t3
-add-t3 c = let s = c .before .before .before .before in sum-fits (s .args .s .count) (s .args .t .count) (s .pre .0 .count) (s .pre .1 .count)
+-- the entry, from where a field of both has been read
+abbrev of-count : tie.After-struct-told2 → tie.Start
+of-count c = c .before .before .before .before
 
-add-t4 : tie.Need-add-t4
-add-t4 c = let s = c .before .before .before .before .before .before .before .before in sum-fits (s .args .s .x) (s .args .t .x) (s .pre .0 .x) (s .pre .1 .x)
+abbrev of-x : tie.After-struct-told4 → tie.Start
+of-x c = of-count (c .before .before .before .before)
 
-add-t5 : tie.Need-add-t5
-add-t5 c = let s = c .before .before .before .before .before .before .before .before .before .before .before .before in sum-fits (s .args .s .y) (s .args .t .y) (s .pre .0 .y) (s .pre .1 .y)
+abbrev of-y : tie.After-struct-told6 → tie.Start
+of-y c = of-x (c .before .before .before .before)
 
-add-t6 : tie.Need-add-t6
-add-t6 c = let s = c .before .before .before .before .before .before .before .before .before .before .before .before .before .before .before .before in sum-fits (s .args .s .xx) (s .args .t .xx) (s .pre .0 .xx) (s .pre .1 .xx)
+abbrev of-xx : tie.After-struct-told8 → tie.Start
+of-xx c = of-y (c .before .before .before .before)
 
-add-t7 : tie.Need-add-t7
-add-t7 c = let s = c .before .before .before .before .before .before .before .before .before .before .before .before .before .before .before .before .before .before .before .before in sum-fits (s .args .s .xy) (s .args .t .xy) (s .pre .0 .xy) (s .pre .1 .xy)
+abbrev of-xy : tie.After-struct-told10 → tie.Start
+of-xy c = of-xx (c .before .before .before .before)
 
-add-t8 : tie.Need-add-t8
-add-t8 c = let s = c .before .before .before .before .before .before .before .before .before .before .before .before .before .before .before .before .before .before .before .before .before .before .before .before in sum-fits (s .args .s .yy) (s .args .t .yy) (s .pre .0 .yy) (s .pre .1 .yy)
+abbrev of-yy : tie.After-struct-told12 → tie.Start
+of-yy c = of-xy (c .before .before .before .before)
 
 returns : tie.Need-returns
 returns c =
-    let s = c .before .before .before .before .before .before .before .before .before .before .before .before .before .before .before .before .before .before .before .before .before .before .before .before in
-    λ i. record { count = sum-is (s .args .s .count) (s .args .t .count) (s .pre .0 .count) (s .pre .1 .count) i; x = sum-is (s .args .s .x) (s .args .t .x) (s .pre .0 .x) (s .pre .1 .x) i; y = sum-is (s .args .s .y) (s .args .t .y) (s .pre .0 .y) (s .pre .1 .y) i; xx = sum-is (s .args .s .xx) (s .args .t .xx) (s .pre .0 .xx) (s .pre .1 .xx) i; xy = sum-is (s .args .s .xy) (s .args .t .xy) (s .pre .0 .xy) (s .pre .1 .xy) i; yy = sum-is (s .args .s .yy) (s .args .t .yy) (s .pre .0 .yy) (s .pre .1 .yy) i }
+    let s = of-yy c in
+    let a = s .args in
+    let (p, q) = s .pre in
+    λ i. record { count = sum-is (a .s .count) (a .t .count) (p .count) (q .count) i; x = sum-is (a .s .x) (a .t .x) (p .x) (q .x) i; y = sum-is (a .s .y) (a .t .y) (p .y) (q .y) i; xx = sum-is (a .s .xx) (a .t .xx) (p .xx) (q .xx) i; xy = sum-is (a .s .xy) (a .t .xy) (p .xy) (q .xy) i; yy = sum-is (a .s .yy) (a .t .yy) (p .yy) (q .yy) i }
 
 pub add-sums-spec : {M : Type 1} → statement M
-add-sums-spec = tie.close (tie.spec add-t3 add-t4 add-t5 add-t6 add-t7 add-t8 returns)
+add-sums-spec =
+    tie.close
+    (tie.spec
+    (λ c. let s = of-count c in sum-fits (s .args .s .count) (s .args .t .count) (s .pre .0 .count) (s .pre .1 .count))
+    (λ c. let s = of-x c in sum-fits (s .args .s .x) (s .args .t .x) (s .pre .0 .x) (s .pre .1 .x))
+    (λ c. let s = of-y c in sum-fits (s .args .s .y) (s .args .t .y) (s .pre .0 .y) (s .pre .1 .y))
+    (λ c. let s = of-xx c in sum-fits (s .args .s .xx) (s .args .t .xx) (s .pre .0 .xx) (s .pre .1 .xx))
+    (λ c. let s = of-xy c in sum-fits (s .args .s .xy) (s .args .t .xy) (s .pre .0 .xy) (s .pre .1 .xy))
+    (λ c. let s = of-yy c in sum-fits (s .args .s .yy) (s .args .t .yy) (s .pre .0 .yy) (s .pre .1 .yy))
+    returns)

@@ -1,62 +1,68 @@
 -- `cells::next_answer` meets its contract: case by case of the answer so far, its tests are the definition's.
-use mathlib.Core.Path.{sym, subst}
+use mathlib.Core.Path.{_≡_, sym, subst}
+use mathlib.Core.Bool.{false}
 use Prim.Native.Nat.{_^_}
 use borrow.Author.Needs.{needs}
-use Rattle.cells.specs.RegionCall.{reading}
+use Rattle.cells.specs.RegionCall.{badRun, reading}
 use Rattle.cells.specs.private.Scan.{answerWith, SumsWithin}
 use Rattle.integers.proofs.Flags.{tells}
 use Rattle.cells.proofs.SumLaws.{in-grid, run-within}
 use Rattle.cells.proofs.next_answer.Statement.{statement}
 use Rattle.cells.proofs.next_answer.Tie as tie
 
-enum-known-answer : tie.Need-enum-known-answer
-enum-known-answer c = search needs
+-- ---- the places of a run that follows sums so far
 
-bad-run-requires : tie.Need-bad-run-requires
-bad-run-requires c κs = search needs
+abbrev matched : tie.After-known-told → tie.Start
+matched c = c .before .before .before .before
+
+abbrev tested-6 : tie.Else1 → tie.After-known-told
+tested-6 c = c .before .before
+
+abbrev past-6 : tie.Else2 → tie.Else1
+past-6 c = c .before .before
+
+-- ---- what is known there
+
+not-bad : (c : tie.Else1) → badRun (matched (tested-6 c) .args .run) ≡ false
+not-bad c = tells (c .before .bad-run .ensures) (c .if1 .left)
+
+-- ---- the needs
 
 returns : tie.Need-returns
 unfolding answerWith
-returns c = rw (c .before .before .before .answer .given .1, tells (c .before .bad-run .ensures) (c .if1 .taken))
-
-out-of-order-requires : tie.Need-out-of-order-requires
-out-of-order-requires c κs = search needs
+returns c = let known = c .before .before in rw (known .before .answer .given .1, tells (c .before .bad-run .ensures) (c .if1 .taken))
 
 returns-2 : tie.Need-returns-2
 unfolding answerWith
-returns-2 c = rw (c .before .before .before .before .before .answer .given .1, tells (c .before .before .before .bad-run .ensures) (c .before .before .if1 .left), tells (c .before .out-of-order .ensures) (c .if2 .taken))
+returns-2 c =
+    let good = c .before .before in
+    rw (tested-6 good .before .answer .given .1, not-bad good, tells (c .before .out-of-order .ensures) (c .if2 .taken))
 
 run-sums-requires : tie.Need-run-sums-requires
-run-sums-requires c κs = in-grid _ (tells (c .before .before .before .bad-run .ensures) (c .before .before .if1 .left))
+run-sums-requires c κs = in-grid _ (not-bad (past-6 c))
 
 add-sums-requires : tie.Need-add-sums-requires
 add-sums-requires c κs =
-    let start = c .before .before .before .before .before .before .before .before .before in
-    (rw (c .before .before .before .before .before .before .answer .given .1) at (start .pre .sums), subst (SumsWithin (2 ^ 30)) (sym (c .run-sums .ensures)) (run-within (start .args .run) (in-grid _ (tells (c .before .before .before .before .bad-run .ensures) (c .before .before .before .if1 .left)))))
-
-enum-known-answer-2 : tie.Need-enum-known-answer-2
-enum-known-answer-2 c = search needs
-
-bad-run-requires-2 : tie.Need-bad-run-requires-2
-bad-run-requires-2 c κs = search needs
+    let good = past-6 (c .before) in
+    let known = tested-6 good in
+    let start = matched known in
+    (rw (known .before .answer .given .1) at (start .pre .sums), subst (SumsWithin (2 ^ 30)) (sym (c .run-sums .ensures)) (run-within (start .args .run) (in-grid _ (not-bad good))))
 
 returns-3 : tie.Need-returns-3
 unfolding answerWith
-returns-3 c = rw (c .before .before .before .answer2 .given .1, tells (c .before .bad-run2 .ensures) (c .if3 .taken))
-
-enum-known-answer-3 : tie.Need-enum-known-answer-3
-enum-known-answer-3 c = search needs
-
-enum-told : tie.Need-enum-told
-enum-told c = search needs
+returns-3 c = let known = c .before .before in rw (known .before .answer2 .given .1, tells (c .before .bad-run2 .ensures) (c .if3 .taken))
 
 returns-4 : tie.Need-returns-4
 unfolding answerWith
-returns-4 c = rw (c .add-sums .ensures, c .before .run-sums .ensures, c .before .before .before .before .before .before .before .answer .given .1, tells (c .before .before .before .before .before .bad-run .ensures) (c .before .before .before .before .if1 .left), tells (c .before .before .before .out-of-order .ensures) (c .before .before .if2 .left))
+returns-4 c =
+    let summed = c .before in
+    let in-order = summed .before in
+    let good = past-6 in-order in
+    rw (c .add-sums .ensures, summed .run-sums .ensures, tested-6 good .before .answer .given .1, not-bad good, tells (in-order .before .out-of-order .ensures) (in-order .if2 .left))
 
 returns-5 : tie.Need-returns-5
 unfolding answerWith
-returns-5 c = rw (c .before .before .before .answer2 .given .1, tells (c .before .bad-run2 .ensures) (c .if3 .left))
+returns-5 c = let known = c .before .before in rw (known .before .answer2 .given .1, tells (c .before .bad-run2 .ensures) (c .if3 .left))
 
 returns-6 : tie.Need-returns-6
 unfolding answerWith
@@ -69,4 +75,20 @@ returns-7 c = rw (c .enum-told .given .1)
 pub next-answer-spec : {M : Type 1} → statement M
 next-answer-spec =
     tie.close
-    (tie.spec enum-known-answer bad-run-requires returns out-of-order-requires returns-2 run-sums-requires add-sums-requires enum-known-answer-2 bad-run-requires-2 returns-3 enum-known-answer-3 enum-told returns-4 returns-5 returns-6 returns-7)
+    (tie.spec
+    (λ c. search needs)
+    (λ c κs. search needs)
+    returns
+    (λ c κs. search needs)
+    returns-2
+    run-sums-requires
+    add-sums-requires
+    (λ c. search needs)
+    (λ c κs. search needs)
+    returns-3
+    (λ c. search needs)
+    (λ c. search needs)
+    returns-4
+    returns-5
+    returns-6
+    returns-7)

@@ -7,13 +7,17 @@ use Rattle.cells.proofs.Tests.{ltb-not-leb}
 use Rattle.cells.proofs.out_of_order.Statement.{statement}
 use Rattle.cells.proofs.out_of_order.Tie as tie
 
+-- the entry, from where the rows are known not to rise
+abbrev of-not-below : tie.Else1 → tie.Start
+of-not-below c = c .before .before .before
+
 returns : tie.Need-returns
 unfolding liesAfter
 returns c = let a = c .before .before .before .args in rw (lt-ltb (a .earlier .row) (a .run .row) (omega arith))
 
 returns-2 : tie.Need-returns-2
 unfolding liesAfter
-returns-2 c = let a = c .before .before .before .before .before .before .args in rw (le-ltb (a .earlier .row) (a .run .row) (omega arith), ne-eqb (a .earlier .row) (a .run .row) (λ e. omega arith))
+returns-2 c = let a = of-not-below (c .before .before .before) .args in rw (le-ltb (a .earlier .row) (a .run .row) (omega arith), ne-eqb (a .earlier .row) (a .run .row) (λ e. omega arith))
 
 cast-result : tie.Need-cast-result
 cast-result c = search needs
@@ -30,7 +34,8 @@ add-result c = search needs
 returns-3 : tie.Need-returns-3
 unfolding liesAfter
 returns-3 c =
-    let a = c .before .before .before .before .before .before .before .before .before .args in
+    let same-row = c .before .before .before in
+    let a = of-not-below (same-row .before .before .before) .args in
     rw (le-ltb (a .earlier .row) (a .run .row) (omega arith), eq-eqb (a .earlier .row) (a .run .row) (omega arith)) (ltb-not-leb (a .run .first) _)
 
 pub out-of-order-spec : {M : Type 1} → statement M

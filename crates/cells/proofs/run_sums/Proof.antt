@@ -7,8 +7,8 @@ use lib.IntN.{ℤ, pos, natAbs, _-ℤ_, _*ℤ_}
 use mir.Syntax.{w64}
 use mir.Val.{SFits, toZ, ofZ}
 use borrow.Author.Needs.{needs}
-use Rattle.integers.proofs.Bounds.{Within}
-use Rattle.integers.proofs.SignedCode.{code, casts, runs, run-fits}
+use Rattle.integers.proofs.SignedCode.{code, casts}
+use Rattle.integers.proofs.SizedNumbers.{Sized, sized, fits, is-plain}
 use Rattle.centroid.specs.declared.CellSums.{CellSums}
 use Rattle.cells.specs.declared.Run.{Run}
 use Rattle.cells.specs.CellSums.{cellsOf}
@@ -23,10 +23,7 @@ abbrev i64 : ℤ → ℤ
 i64 z = toZ w64 (ofZ w64 z)
 
 difference-fits : (e a : ℤ) → natAbs e ≤ 2 ^ 30 → natAbs a ≤ 2 ^ 30 → SFits w64 (i64 e -ℤ i64 a)
-difference-fits e a h k = run-fits (e ∷ a ∷ []) (2 ^ 30 ∷ 2 ^ 30 ∷ []) (h, (k, tt)) (search code depth 40) tt
-
-abbrev B : List ℕ
-B = 1024 ∷ 1024 ∷ 2 ^ 20 ∷ 2 ^ 20 ∷ 2 ^ 30 ∷ 2 ^ 30 ∷ []
+difference-fits e a h k = fits (sized e h ∷ sized a k ∷ []) (search code depth 40) tt
 
 record Numbers : Type 0 where
   n : ℕ
@@ -35,10 +32,16 @@ record Numbers : Type 0 where
   e : ℤ
   s : ℤ
   f : ℤ
+  n-small : n ≤ 1024
+  y-small : y ≤ 1024
+  a-small : natAbs a ≤ 2 ^ 20
+  e-small : natAbs e ≤ 2 ^ 20
+  s-small : natAbs s ≤ 2 ^ 30
+  f-small : natAbs f ≤ 2 ^ 30
 
 module _ (v : Numbers) where
-  abbrev ρ : List ℤ
-  ρ = pos (v .n) ∷ pos (v .y) ∷ v .a ∷ v .e ∷ v .s ∷ v .f ∷ []
+  abbrev operands : List Sized
+  operands = sized (pos (v .n)) (v .n-small) ∷ sized (pos (v .y)) (v .y-small) ∷ sized (v .a) (v .a-small) ∷ sized (v .e) (v .e-small) ∷ sized (v .s) (v .s-small) ∷ sized (v .f) (v .f-small) ∷ []
 
   abbrev n : ℤ
   n = toZ w64 (v .n)
@@ -64,36 +67,35 @@ module _ (v : Numbers) where
   abbrev inClosedForm : CellSums
   inClosedForm = closed (pos (v .n)) (pos (v .y)) (v .a) (v .e) (v .s) (v .f)
 
-  module _ (h : Within ρ B) where
-    ny-fits : SFits w64 (n *ℤ y)
-    ny-fits = run-fits ρ B h (search (casts, code) depth 40) tt
+  ny-fits : SFits w64 (n *ℤ y)
+  ny-fits = fits operands (search (casts, code) depth 40) tt
 
-    xy-fits : SFits w64 (x *ℤ y)
-    xy-fits = run-fits ρ B h (search (casts, code) depth 40) tt
+  xy-fits : SFits w64 (x *ℤ y)
+  xy-fits = fits operands (search (casts, code) depth 40) tt
 
-    yy-fits : SFits w64 (ny *ℤ y)
-    yy-fits = run-fits ρ B h (search (casts, code) depth 40) tt
+  yy-fits : SFits w64 (ny *ℤ y)
+  yy-fits = fits operands (search (casts, code) depth 40) tt
 
-    n-is : n ≡ inClosedForm .count
-    n-is = runs ρ B h (search (casts, code) depth 40) tt
+  n-is : n ≡ inClosedForm .count
+  n-is = is-plain operands (search (casts, code) depth 40) tt
 
-    x-is : x ≡ inClosedForm .x
-    x-is = runs ρ B h (search (casts, code) depth 40) tt
+  x-is : x ≡ inClosedForm .x
+  x-is = is-plain operands (search (casts, code) depth 40) tt
 
-    ny-is : ny ≡ inClosedForm .y
-    ny-is = runs ρ B h (search (casts, code) depth 40) tt
+  ny-is : ny ≡ inClosedForm .y
+  ny-is = is-plain operands (search (casts, code) depth 40) tt
 
-    xx-is : xx ≡ inClosedForm .xx
-    xx-is = runs ρ B h (search (casts, code) depth 40) tt
+  xx-is : xx ≡ inClosedForm .xx
+  xx-is = is-plain operands (search (casts, code) depth 40) tt
 
-    xy-is : xy ≡ inClosedForm .xy
-    xy-is = runs ρ B h (search (casts, code) depth 40) tt
+  xy-is : xy ≡ inClosedForm .xy
+  xy-is = is-plain operands (search (casts, code) depth 40) tt
 
-    yy-is : yy ≡ inClosedForm .yy
-    yy-is = runs ρ B h (search (casts, code) depth 40) tt
+  yy-is : yy ≡ inClosedForm .yy
+  yy-is = is-plain operands (search (casts, code) depth 40) tt
 
-    computed : _≡_ {A = CellSums} (record { count = n; x = x; y = ny; xx = xx; xy = xy; yy = yy }) inClosedForm
-    computed = λ i. record { count = n-is i; x = x-is i; y = ny-is i; xx = xx-is i; xy = xy-is i; yy = yy-is i }
+  computed : _≡_ {A = CellSums} (record { count = n; x = x; y = ny; xx = xx; xy = xy; yy = yy }) inClosedForm
+  computed = λ i. record { count = n-is i; x = x-is i; y = ny-is i; xx = xx-is i; xy = xy-is i; yy = yy-is i }
 
 -- ---- the needs
 
@@ -146,10 +148,21 @@ module _ (c : tie.After-square-sum2) where
   first-square = square-sized (run (start mid) .first) (first-below (start mid)) (c .square-sum2 .ensures)
 
   abbrev numbers : Numbers
-  numbers = record { n = run (start mid) .length; y = run (start mid) .row; a = mid .index-sum2 .result; e = mid .before .index-sum .result; s = c .square-sum2 .result; f = c .before .square-sum .result }
-
-  small : Within (ρ numbers) B
-  small = (omega (arith, start mid .pre .end), (omega (arith, start mid .pre .row), (first-size mid, (end-size mid, (first-square, (end-square, tt))))))
+  numbers =
+      record {
+        n = run (start mid) .length;
+        y = run (start mid) .row;
+        a = mid .index-sum2 .result;
+        e = mid .before .index-sum .result;
+        s = c .square-sum2 .result;
+        f = c .before .square-sum .result;
+        n-small = omega (arith, start mid .pre .end);
+        y-small = omega (arith, start mid .pre .row);
+        a-small = first-size mid;
+        e-small = end-size mid;
+        s-small = first-square;
+        f-small = end-square;
+      }
 
 sub-x : tie.Need-sub-x
 sub-x c = difference-fits (c .before .index-sum .result) (c .index-sum2 .result) (omega (arith, end-size c)) (omega (arith, first-size c))
@@ -158,22 +171,22 @@ sub-xx : tie.Need-sub-xx
 sub-xx c = difference-fits (c .before .square-sum .result) (c .square-sum2 .result) (end-square c) (first-square c)
 
 mul-t7 : tie.Need-mul-t7
-mul-t7 c = ny-fits (numbers c) (small c)
+mul-t7 c = ny-fits (numbers c)
 
 mul-t8 : tie.Need-mul-t8
-mul-t8 c = xy-fits (numbers c) (small c)
+mul-t8 c = xy-fits (numbers c)
 
 mul-t9 : tie.Need-mul-t9
-mul-t9 c = ny-fits (numbers c) (small c)
+mul-t9 c = ny-fits (numbers c)
 
 mul-t10 : tie.Need-mul-t10
-mul-t10 c = yy-fits (numbers c) (small c)
+mul-t10 c = yy-fits (numbers c)
 
 returns : tie.Need-returns
 unfolding cellsOf
 returns c =
     let r = run (start (mid c)) in
-    computed (numbers c) (small c)
+    computed (numbers c)
     ∙ (λ i. closed (pos (r .length)) (pos (r .row)) (mid c .index-sum2 .ensures i) (mid c .before .index-sum .ensures i) (c .square-sum2 .ensures i) (c .before .square-sum .ensures i))
     ∙ sym (run-closed (r .row) (r .first) (r .length))
 
