@@ -15,8 +15,8 @@ use Rattle.integers.proofs.Bounds.{within}
 use Rattle.integers.proofs.Flags.{or-left, or-right, none-of-six}
 use Rattle.outline.specs.MapCall.{totalLimit}
 use Rattle.centroid.specs.declared.CellSums.{CellSums}
-use Rattle.centroid.specs.Centroid.{outsideLimit, sumsOutside, centred}
-use Rattle.centroid.specs.Answers.{QuotientBounds}
+use Rattle.centroid.specs.Centroid.{cellLimit, outsideLimit, sumsOutside, centred}
+use Rattle.centroid.specs.private.Quotient.{QuotientBounds}
 
 -- ---- what the tests say where they fail
 
@@ -28,7 +28,7 @@ not-outside n z e =
 
 pub record SumsWithin (s : CellSums) : Type 0 where
   pub sign : pos 0 ≤ℤ s .count
-  pub count : natAbs (s .count) ≤ 1_048_576
+  pub count : natAbs (s .count) ≤ cellLimit
   pub x : natAbs (s .x) ≤ totalLimit
   pub y : natAbs (s .y) ≤ totalLimit
 
@@ -36,8 +36,8 @@ pub sums-within : (s : CellSums) → sumsOutside s ≡ false → SumsWithin s
 unfolding sumsOutside
 sums-within s e =
     let o : ℤ → Bool = outsideLimit (pos totalLimit) in
-    let f = none-of-six (outsideLimit (pos 1_048_576) (s .count)) (o (s .x)) (o (s .y)) (o (s .xx)) (o (s .xy)) (o (s .yy)) e in
-    let k = not-outside 1_048_576 (s .count) (f .0) in
+    let f = none-of-six (outsideLimit (pos cellLimit) (s .count)) (o (s .x)) (o (s .y)) (o (s .xx)) (o (s .xy)) (o (s .yy)) e in
+    let k = not-outside cellLimit (s .count) (f .0) in
     record { sign = k .0; count = k .1; x = not-outside totalLimit (s .x) (f .1) .1; y = not-outside totalLimit (s .y) (f .2) .1 }
 
 -- ---- the bounds

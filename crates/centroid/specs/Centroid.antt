@@ -52,14 +52,18 @@ outlineCentroidCall t =
     (cond (eqb (natAbs (t .a2)) 0) (refused 27)
     (centred (signedBy (t .a2) (t .x6)) (signedBy (t .a2) (t .y6)) (signedBy (t .a2) (pos 3 *ℤ t .a2))))
 
+-- The limit of A: the cells of 1,024 rows and 1,024 columns.
+abbrev pub cellLimit : ℕ
+cellLimit = 1_048_576
+
 -- A cell sum is negative or over its limit.
 unfoldable pub outsideLimit : ℤ → ℤ → Bool
 outsideLimit limit z = ltZ z (pos 0) || ltZ limit z
 
--- Refusal 11 for cell sums: A is over 1,048,576, another sum is over the limit of a total, or any of the six is negative.
+-- Refusal 11 for cell sums: A is over its limit, another sum is over the limit of a total, or any of the six is negative.
 unfoldable pub sumsOutside : CellSums → Bool
 sumsOutside s =
-    outsideLimit (pos 1_048_576) (s .count)
+    outsideLimit (pos cellLimit) (s .count)
     || outsideLimit (pos totalLimit) (s .x)
     || outsideLimit (pos totalLimit) (s .y)
     || outsideLimit (pos totalLimit) (s .xx)

@@ -1,2 +1,3 @@
 pub mod Centroid
 pub mod Answers
+pub mod private

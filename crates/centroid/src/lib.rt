@@ -1,7 +1,8 @@
 // The centre of outline totals and of cell sums: an exact quotient, rounded to a whole number with halves up.
 ghost use mathlib.Core.Path.{_≡_};
 ghost use Rattle.centroid.specs.Centroid.{centre, centred, outlineCentroidCall, outsideLimit, sumsOutside, regionCentroidCall};
-ghost use Rattle.centroid.specs.Answers.{reading, QuotientBounds};
+ghost use Rattle.centroid.specs.Answers.{reading};
+ghost use Rattle.centroid.specs.private.Quotient.{QuotientBounds};
 
 // The sums over the cells of a region: A, the number of cells, then the sums of x, y, x², xy and y².
 pub struct CellSums {

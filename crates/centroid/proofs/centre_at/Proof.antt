@@ -6,7 +6,6 @@ use mir.Syntax.{w64}
 use mir.Val.{toZ, ofZ, SFits}
 use mir.Facts.{toZ-ofZ}
 use Rattle.centroid.specs.Centroid.{centre}
-use Rattle.centroid.specs.Answers.{reading}
 use Rattle.centroid.proofs.centre_at.Statement.{statement}
 use Rattle.centroid.proofs.centre_at.Tie as tie
 

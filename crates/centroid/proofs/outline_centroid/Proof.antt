@@ -19,7 +19,7 @@ use Rattle.outline.specs.MapCall.{totalLimit, totalLimits}
 use Rattle.outline.proofs.Limits.{exceed-fit}
 use Rattle.limits.proofs.Fields.{TotalsFit}
 use Rattle.centroid.specs.Centroid.{outlineCentroidCall, signedBy}
-use Rattle.centroid.specs.Answers.{QuotientBounds, reading}
+use Rattle.centroid.specs.private.Quotient.{QuotientBounds}
 use Rattle.centroid.proofs.CodeTests.{zero-size, nonzero-size}
 use Rattle.centroid.proofs.Limits.{bounds-above, bounds-below, same-bounds, same-centre}
 use Rattle.centroid.proofs.outline_centroid.Statement.{statement}

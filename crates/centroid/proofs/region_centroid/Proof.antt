@@ -11,7 +11,7 @@ use Rattle.integers.proofs.Flags.{tells}
 use Rattle.outline.specs.MapCall.{totalLimit}
 use Rattle.centroid.specs.declared.CellSums.{CellSums}
 use Rattle.centroid.specs.Centroid.{sumsOutside, regionCentroidCall}
-use Rattle.centroid.specs.Answers.{QuotientBounds, reading}
+use Rattle.centroid.specs.private.Quotient.{QuotientBounds}
 use Rattle.centroid.proofs.CodeTests.{zero-size, nonzero-size}
 use Rattle.centroid.proofs.Fields.{SumsFit}
 use Rattle.centroid.proofs.Limits.{sums-within, bounds, same-bounds, same-centre}
