@@ -6,7 +6,8 @@ use native.Mathlib.Omega.{arith}
 use lib.ListN.{take, drop}
 use Rattle.outline.specs.declared.Walk.{Walk}
 use Rattle.parsing.specs.Grammar.{Form, begin, end, abandon, point, other, formOf}
-use Rattle.parsing.specs.ReadForm.{lineLength, formed, formAt}
+use Rattle.newlines.specs.LineLength.{lineLength}
+use Rattle.parsing.specs.ReadForm.{formed, formAt}
 use Rattle.lines.specs.LineOutcomes.{asked, askedAt}
 
 own-form : (f : Form) (next : ℕ) → formed f next .form ≡ f

@@ -7,7 +7,7 @@ use lib.ListN.{take, drop}
 use Rattle.outline.specs.declared.Walk.{Walk}
 use Rattle.outline.specs.WalkCalls.{WalkOutcome, refusedWalk, beginCall, pointCall, abandonCall}
 use Rattle.parsing.specs.Grammar.{Form, begin, end, abandon, point, other, formOf}
-use Rattle.parsing.specs.ReadForm.{lineLength}
+use Rattle.newlines.specs.LineLength.{lineLength}
 use Rattle.printing.specs.Buffer.{fitting, Written}
 use Rattle.text_program.specs.Program.{Carried}
 use Rattle.lines.specs.declared.Asked.{Asked}

@@ -11,11 +11,11 @@ mod calls;
 use calls::abandon_walk;
 use calls::begin_walk;
 use calls::extend_walk;
+use newlines::newline;
 use outline::Sheet;
 use outline::Walk;
 use parsing::LineForm;
 use parsing::line_form;
-use parsing::newline;
 use printing::put_outline;
 use printing::put_refusal;
 

@@ -9,7 +9,9 @@ use lib.ListN.{length, take}
 use borrow.Author.Tests.{eqb-false, ne-eqb}
 use Rattle.parsing.specs.Grammar.{Form, begin, end, abandon, point, other}
 use Rattle.parsing.proofs.Tokens.{Plain}
-use Rattle.parsing.specs.ReadForm.{lineLength, noForm, formed}
+use Rattle.newlines.specs.LineLength.{lineLength}
+use Rattle.newlines.proofs.Newlines.{line-within}
+use Rattle.parsing.specs.ReadForm.{noForm, formed}
 use Rattle.parsing.specs.Parts.{lineFront}
 
 pub formed-other : (next : ℕ) → formed other next ≡ noForm
@@ -75,15 +77,6 @@ front-further-on rule bs at k =
     go other n = refl
 
 -- It is one past the bytes at most.
-pub line-within : (bs : List ℕ) → lineLength bs ≤ length bs
-unfolding lineLength
-line-within [] = omega arith
-line-within (b ∷ bs) = go (line-within bs) (eqb b 10)
-  where
-    go : lineLength bs ≤ length bs → (t : Bool) → cond t 0 (suc (lineLength bs)) ≤ suc (length bs)
-    go h true = omega arith
-    go h false = omega arith
-
 pub front-next : (rule : List ℕ → Form) (bs : List ℕ) (at : ℕ) → lineFront rule bs at .next ≤ at + length bs + 1
 unfolding lineFront formed
 front-next rule bs at = omega (arith, line-within bs, go (rule (take (lineLength bs) bs)) (at + lineLength bs + 1))

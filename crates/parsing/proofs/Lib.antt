@@ -10,4 +10,3 @@ pub mod ReadingLaw
 pub mod WorkedLines
 pub mod FormLength
 pub mod ShortLines
-pub mod Newlines

@@ -5,16 +5,15 @@ use mathlib.Core.Bool.{Bool, true, false, not, _&&_, cond}
 use mathlib.Core.List.{List, [], _∷_}
 use native.Mathlib.Omega.{arith}
 use native.Mathlib.Nat.{zero-add}
-use native.Mathlib.Numerals.{add-one}
 use lib.Dec.{leb, eqb}
 use lib.IntN.{pos, negℤ}
 use lib.ListN.{length, take, drop, getD}
-use lib.Seq.{drop-cons}
 use borrow.Author.Tests.{leb-true, eq-eqb, ne-eqb}
 use Rattle.parsing.specs.Grammar.{isDigit, allDigits, valueFrom, leadingZero, isNatural, Number, number, malformed, negativeOf, naturalOf, numberOf}
 use Rattle.parsing.specs.Parts.{leadingDigits, digitsAt, numberToken, sized, numberAt}
 use Rattle.parsing.specs.declared.number.DigitsAt.{DigitsAt}
 use Rattle.parsing.specs.declared.number.NumberAt.{NumberAt}
+use Rattle.newlines.proofs.Newlines.{byte-at}
 use Rattle.integers.proofs.Flags.{and-left, and-right}
 use Rattle.parsing.proofs.Tokens.{digit-bounds, digits-size}
 
@@ -117,9 +116,6 @@ number-reads b bs = go (eqb b 45) refl
     go false e = ap (λ (n : Number). sized n (length (leadingDigits (take 4 (b ∷ bs))))) (unsigned-digits b (take 3 bs) e) ∙ (ap (sized (naturalOf (leadingDigits (take 4 (b ∷ bs))))) (sym (zero-add (length (leadingDigits (take 4 (b ∷ bs)))))) ∙ sized-sign false (take 4 (b ∷ bs)))
 
 -- ---- places
-
-pub byte-at : (s : List ℕ) (i : ℕ) → i < length s → drop i s ≡ getD s i 0 ∷ drop (i + 1) s
-byte-at s i h = rw (add-one, drop-cons s i 0 h)
 
 pub four-at : (s : List ℕ) (i : ℕ) → i + 4 ≤ length s → take 4 (drop i s) ≡ getD s i 0 ∷ getD s (i + 1) 0 ∷ getD s (i + 2) 0 ∷ getD s (i + 3) 0 ∷ []
 four-at s i h =

@@ -11,7 +11,7 @@ use Rattle.parsing.specs.ReadForm.{Front, noForm, formed}
 use Rattle.parsing.specs.Parts.{numberToken, numberAt, secondForm, lineFront}
 use Rattle.parsing.specs.declared.number.NumberAt.{NumberAt}
 use Rattle.parsing.proofs.Tokens.{token-size}
-use Rattle.parsing.proofs.NumberReads.{byte-at}
+use Rattle.newlines.proofs.Newlines.{byte-at}
 use Rattle.parsing.proofs.Fronts.{number-none, Found, number-some, number-size, y-ends, y-goes-on, y-malformed, past-x, x-malformed, x-no-tab, p-no-tab, p-line, long-line, letter-line, other-line}
 
 -- Where the number behind the tab at `at` ends.

@@ -9,7 +9,8 @@ use lib.ListN.{length, take, drop, length-drop, length-append, drop-of-length-le
 use lib.Seq.{take-all, take-length, drop-cons}
 use borrow.Author.Tests.{leb-true, leb-false, ltb-true, ltb-false}
 use Rattle.parsing.specs.Grammar.{fields, letterOf, formOfFields, formOf}
-use Rattle.parsing.specs.ReadForm.{lineLength, Front, formed, formAt}
+use Rattle.newlines.specs.LineLength.{lineLength}
+use Rattle.parsing.specs.ReadForm.{Front, formed, formAt}
 use Rattle.parsing.specs.Parts.{lineFront, copiedOnto}
 use Rattle.parsing.proofs.FrontLaws.{front-closed, front-further-on, front-next}
 

@@ -6,7 +6,8 @@ use Prim.Native.Nat.{ℕ, zero, suc, _+_}
 use lib.IntN.{pos, negsuc}
 use lib.ListN.{replicate}
 use Rattle.parsing.specs.Grammar.{allDigits, valueFrom, leadingZero, isNatural, numberOf, negativeOf, naturalOf, fields, withFirst, letterOf, pointOf, isP, formOfFields, formOf, Form, begin, end, abandon, point, other}
-use Rattle.parsing.specs.ReadForm.{lineLength, noForm, formed, formAt}
+use Rattle.newlines.specs.LineLength.{lineLength}
+use Rattle.parsing.specs.ReadForm.{noForm, formed, formAt}
 
 record Worked : Type 0 where
   line : List ℕ

@@ -6,7 +6,8 @@ use lib.Dec.{eqb}
 use lib.ListN.{length, take, drop}
 use lib.IntN.{pos}
 use Rattle.parsing.specs.Grammar.{isDigit, valueFrom, isNatural, Number, number, malformed, numberOf, fields, Form, other, pointOf}
-use Rattle.parsing.specs.ReadForm.{lineLength, Front, formed}
+use Rattle.newlines.specs.LineLength.{lineLength}
+use Rattle.parsing.specs.ReadForm.{Front, formed}
 use Rattle.parsing.specs.declared.number.NumberAt.{NumberAt}
 use Rattle.parsing.specs.declared.number.DigitsAt.{DigitsAt}
 

@@ -1,17 +1,11 @@
 -- The form of the line at a place of a chunk, in the terms of `Grammar`, and what each answer of `line_form` says in those terms.
-use Prim.Native.Nat.{ℕ, suc, _+_}
-use mathlib.Core.Bool.{cond}
-use mathlib.Core.List.{List, [], _∷_}
-use lib.Dec.{eqb}
+use Prim.Native.Nat.{ℕ, _+_}
+use mathlib.Core.List.{List}
 use lib.ListN.{take, drop}
+use Rattle.newlines.specs.LineLength.{lineLength}
 use Rattle.parsing.specs.Grammar.{Form, begin, end, abandon, point, other, formOf}
 use Rattle.parsing.specs.declared.LineForm.{LineForm}
 use Rattle.parsing.specs.declared.LineForm.the-variants.{Begin, End, Abandon, Point, Other}
-
--- The bytes before the first newline, or all.
-unfoldable pub lineLength : List ℕ → ℕ
-lineLength [] = 0
-lineLength (b ∷ bs) = cond (eqb b 10) 0 (suc (lineLength bs))
 
 -- A form, and the place where the next line begins: 0 where there is no form.
 pub record Front : Type 0 where

@@ -11,7 +11,7 @@ use Rattle.outline.specs.declared.Sheet.{Sheet}
 use Rattle.outline.specs.declared.Walk.{Walk}
 use Rattle.outline.specs.WalkCalls.{endCall}
 use Rattle.parsing.specs.Grammar.{Form, begin, end, abandon, point, other, formOf}
-use Rattle.parsing.specs.ReadForm.{lineLength}
+use Rattle.newlines.specs.LineLength.{lineLength}
 use Rattle.text_program.specs.declared.State.{State}
 use Rattle.text_program.specs.Program.{told, carriedEnd, carryOut}
 use Rattle.text_program.specs.Stream.{carriedStep, ending, part, whole, heldBytes, lineStep}

@@ -15,12 +15,12 @@ use Rattle.outline.specs.WalkCalls.{origin, closed, newSheet, extended, impossi
 use Rattle.text_program.specs.declared.State.{State}
 use Rattle.centroid.specs.Centroid.{outlineCentroidCall}
 use Rattle.parsing.specs.Grammar.{allDigits, valueFrom, leadingZero, isNatural, naturalOf, numberOf, withFirst, fields, letterOf, pointOf, isP, formOfFields, formOf}
-use Rattle.parsing.specs.ReadForm.{lineLength}
+use Rattle.newlines.specs.LineLength.{lineLength}
 use Rattle.printing.specs.Output.{digits, decimal, signed, totalsText, centreText, refusalLine, sheetLine}
 use Rattle.text_program.specs.Program.{carriedWalk, carriedEnd, carryOut, program}
 use Rattle.text_program.specs.Stream.{start, closing, ending, lineStep, step, steps, feedCall}
 use Rattle.text_program.specs.Chunks.{Place, Run, here, reads, feeds, remainingAt}
-use Rattle.parsing.proofs.FrontLaws.{line-within}
+use Rattle.newlines.proofs.Newlines.{line-within}
 use Rattle.text_program.proofs.Lines.{lineSize}
 use Rattle.text_program.proofs.Worked.{text}
 use Rattle.text_program.proofs.Progress.{first-step}

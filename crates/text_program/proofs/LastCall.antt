@@ -9,7 +9,7 @@ use borrow.Author.Tests.{le-ltb}
 use Rattle.outline.specs.declared.Sheet.{Sheet}
 use Rattle.printing.specs.Buffer.{lineRoom}
 use Rattle.text_program.specs.declared.State.{State}
-use Rattle.parsing.specs.ReadForm.{lineLength}
+use Rattle.newlines.specs.LineLength.{lineLength}
 use Rattle.text_program.specs.Stream.{Step, closing, followed, step, steps, feedCall}
 use Rattle.text_program.proofs.StepCases.{StepCase, done, ended, last, waits, far, newline, unended, holds, step-case}
 use Rattle.text_program.proofs.Progress.{stepsAfter, first-step}

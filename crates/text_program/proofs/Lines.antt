@@ -9,7 +9,7 @@ use lib.Seq.{length-take-le, take-all, drop-length}
 use lib.Dec.{eqb}
 use borrow.Author.Tests.{eqb-true}
 use Rattle.text_program.specs.Program.{Line, linesFrom}
-use Rattle.parsing.specs.ReadForm.{lineLength}
+use Rattle.newlines.specs.LineLength.{lineLength}
 use Rattle.printing.proofs.Cases.{by-cond}
 
 -- ---- the first newline

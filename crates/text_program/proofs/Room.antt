@@ -24,7 +24,7 @@ use Rattle.parsing.specs.Grammar.{Form, begin, end, abandon, point, other, form
 use Rattle.printing.specs.Output.{refusalLine}
 use Rattle.printing.specs.Buffer.{lineRoom}
 use Rattle.text_program.specs.Program.{Carried, carriedWalk, carriedEnd, carryOut}
-use Rattle.parsing.specs.ReadForm.{lineLength}
+use Rattle.newlines.specs.LineLength.{lineLength}
 use Rattle.text_program.specs.Stream.{Step, heldBytes, whole, step, feedCall}
 use Rattle.printing.proofs.Cases.{by-cond}
 use Rattle.text_program.proofs.Lines.{lineSize}

@@ -10,7 +10,7 @@ use borrow.Author.Tests.{ltb-true, ltb-false, leb-true, leb-false, eqb-true, eqb
 use Rattle.integers.proofs.Flags.{and-left, and-right}
 use Rattle.outline.specs.declared.Sheet.{Sheet}
 use Rattle.text_program.specs.declared.State.{State}
-use Rattle.parsing.specs.ReadForm.{lineLength}
+use Rattle.newlines.specs.LineLength.{lineLength}
 use Rattle.text_program.specs.Stream.{Step, halted, closing, ending, whole, part, lineStep, step}
 use Rattle.printing.proofs.Cases.{by-cond, by-or, by-and}
 use Rattle.text_program.proofs.Lines.{lineSize}

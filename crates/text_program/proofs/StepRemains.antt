@@ -10,7 +10,7 @@ use Rattle.outline.specs.declared.Sheet.{Sheet}
 use Rattle.text_program.specs.declared.State.{State}
 use Rattle.printing.specs.Output.{sheetLine}
 use Rattle.text_program.specs.Program.{linesFrom, outputOf}
-use Rattle.parsing.specs.ReadForm.{lineLength}
+use Rattle.newlines.specs.LineLength.{lineLength}
 use Rattle.text_program.specs.Stream.{Step, closing, ending, whole, heldBytes, step, remaining}
 use Rattle.text_program.proofs.Lines.{lineSize, FirstLine, lines-part, lines-whole, lines-last}
 use Rattle.text_program.proofs.TooFar.{beyond, near-output, far-remains}

@@ -14,7 +14,7 @@ use Rattle.outline.specs.declared.Sheet.{Sheet}
 use Rattle.parsing.specs.Grammar.{formOf}
 use Rattle.printing.specs.Output.{refusalLine, sheetLine}
 use Rattle.text_program.specs.Program.{Line, linesFrom, tooFar, carryOut, outputOf}
-use Rattle.parsing.specs.ReadForm.{lineLength}
+use Rattle.newlines.specs.LineLength.{lineLength}
 use Rattle.printing.proofs.Cases.{by-cond}
 use Rattle.text_program.proofs.Lines.{line, lineSize}
 

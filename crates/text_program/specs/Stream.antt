@@ -10,7 +10,7 @@ use Rattle.outline.specs.declared.Sheet.{Sheet}
 use Rattle.outline.specs.WalkCalls.{closed}
 use Rattle.text_program.specs.declared.State.{State}
 use Rattle.parsing.specs.Grammar.{formOf}
-use Rattle.parsing.specs.ReadForm.{lineLength}
+use Rattle.newlines.specs.LineLength.{lineLength}
 use Rattle.printing.specs.Output.{refusalLine, sheetLine}
 use Rattle.printing.specs.Buffer.{lineRoom}
 use Rattle.text_program.specs.Program.{Carried, carryOut, outputOf, linesFrom}

@@ -8,8 +8,9 @@ use lib.ListN.{drop, length-drop}
 use mir.Syntax.{w32}
 use mir.ValLaws.{toZ-ofZ}
 use Rattle.parsing.specs.Grammar.{begin, end, abandon, point, other}
-use Rattle.parsing.specs.ReadForm.{lineLength, formed, formAt, reading}
-use Rattle.parsing.proofs.FrontLaws.{line-within}
+use Rattle.newlines.specs.LineLength.{lineLength}
+use Rattle.parsing.specs.ReadForm.{formed, formAt, reading}
+use Rattle.newlines.proofs.Newlines.{line-within}
 use Rattle.lines.specs.LineOutcomes.{asked, askedAt}
 use Rattle.lines.proofs.LineAsks.{same-form, next-line, line-asks}
 use Rattle.lines.proofs.ask.Statement.{statement}

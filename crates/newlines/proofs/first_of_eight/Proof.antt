@@ -3,10 +3,10 @@ use Prim.Native.Nat.{_+_, _-_, _≤_}
 use mathlib.Core.Path.{_≡_, refl, ap, _∙_}
 use native.Mathlib.Omega.{arith}
 use lib.ListN.{take, drop}
-use Rattle.parsing.specs.ReadForm.{lineLength}
-use Rattle.parsing.proofs.Newlines.{front-short, front-grows}
-use Rattle.parsing.proofs.first_of_eight.Statement.{statement}
-use Rattle.parsing.proofs.first_of_eight.Tie as tie
+use Rattle.newlines.specs.LineLength.{lineLength}
+use Rattle.newlines.proofs.Newlines.{front-short, front-grows}
+use Rattle.newlines.proofs.first_of_eight.Statement.{statement}
+use Rattle.newlines.proofs.first_of_eight.Tie as tie
 
 abbrev Inv-loop : tie.InvT-loop
 Inv-loop s at i₀ k₀ i k = (i ≤ 8) × (k ≡ lineLength (take (8 - i) (drop (at + i) s)))

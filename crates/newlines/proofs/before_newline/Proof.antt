@@ -2,8 +2,8 @@
 use mathlib.Core.Path.{_≡_, refl}
 use native.Mathlib.Omega.{arith}
 use borrow.Author.Tests.{eq-eqb, ne-eqb}
-use Rattle.parsing.proofs.before_newline.Statement.{statement}
-use Rattle.parsing.proofs.before_newline.Tie as tie
+use Rattle.newlines.proofs.before_newline.Statement.{statement}
+use Rattle.newlines.proofs.before_newline.Tie as tie
 
 returns : tie.Need-returns
 returns c = rw (eq-eqb (c .before .args .b) 10 (c .if1 .taken)) refl

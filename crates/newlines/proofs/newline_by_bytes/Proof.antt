@@ -3,10 +3,10 @@ use Prim.Native.Nat.{_+_, _-_}
 use mathlib.Core.Path.{_≡_, refl, sym, _∙_}
 use native.Mathlib.Omega.{arith}
 use lib.ListN.{length, drop}
-use Rattle.parsing.specs.ReadForm.{lineLength}
-use Rattle.parsing.proofs.Newlines.{stops, goes-on, ends}
-use Rattle.parsing.proofs.newline_by_bytes.Statement.{statement}
-use Rattle.parsing.proofs.newline_by_bytes.Tie as tie
+use Rattle.newlines.specs.LineLength.{lineLength}
+use Rattle.newlines.proofs.Newlines.{stops, goes-on, ends}
+use Rattle.newlines.proofs.newline_by_bytes.Statement.{statement}
+use Rattle.newlines.proofs.newline_by_bytes.Tie as tie
 
 abbrev Inv-loop : tie.InvT-loop
 Inv-loop s at i₀ i = i + lineLength (drop i s) ≡ at + lineLength (drop at s)

@@ -4,12 +4,26 @@ use mathlib.Core.Path.{_≡_, refl, ap, _∙_}
 use mathlib.Core.Bool.{Bool, true, false, cond}
 use mathlib.Core.List.{List, [], _∷_}
 use native.Mathlib.Omega.{arith}
+use native.Mathlib.Numerals.{add-one}
 use lib.Dec.{eqb}
 use lib.ListN.{length, getD, take, drop, drop-of-length-le, length-drop}
-use lib.Seq.{drop-drop}
+use lib.Seq.{drop-cons, drop-drop}
 use borrow.Author.Tests.{eq-eqb, ne-eqb}
-use Rattle.parsing.specs.ReadForm.{lineLength}
-use Rattle.parsing.proofs.NumberReads.{byte-at}
+use Rattle.newlines.specs.LineLength.{lineLength}
+
+-- What is left from a place on, by its first byte.
+pub byte-at : (s : List ℕ) (i : ℕ) → i < length s → drop i s ≡ getD s i 0 ∷ drop (i + 1) s
+byte-at s i h = rw (add-one, drop-cons s i 0 h)
+
+-- A line is within its bytes.
+pub line-within : (bs : List ℕ) → lineLength bs ≤ length bs
+unfolding lineLength
+line-within [] = omega arith
+line-within (b ∷ bs) = go (line-within bs) (eqb b 10)
+  where
+    go : lineLength bs ≤ length bs → (t : Bool) → cond t 0 (suc (lineLength bs)) ≤ suc (length bs)
+    go h true = omega arith
+    go h false = omega arith
 
 module _ (s : List ℕ) (i : ℕ) where
   pub stops : i < length s → getD s i 0 ≡ 10 → i ≡ i + lineLength (drop i s)

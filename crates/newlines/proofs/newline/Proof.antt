@@ -4,10 +4,10 @@ use mathlib.Core.Path.{_≡_, refl, _∙_}
 use native.Mathlib.Omega.{arith}
 use borrow.Author.Needs.{needs}
 use lib.ListN.{length, drop}
-use Rattle.parsing.specs.ReadForm.{lineLength}
-use Rattle.parsing.proofs.Newlines.{ends, stops-among, goes-past}
-use Rattle.parsing.proofs.newline.Statement.{statement}
-use Rattle.parsing.proofs.newline.Tie as tie
+use Rattle.newlines.specs.LineLength.{lineLength}
+use Rattle.newlines.proofs.Newlines.{ends, stops-among, goes-past}
+use Rattle.newlines.proofs.newline.Statement.{statement}
+use Rattle.newlines.proofs.newline.Tie as tie
 
 abbrev Inv-loop : tie.InvT-loop
 Inv-loop s at i₀ i = i + lineLength (drop i s) ≡ at + lineLength (drop at s)
