@@ -7,8 +7,9 @@ use native.Mathlib.Omega.{arith}
 use lib.Dec.{leb, eqb}
 use lib.ListN.{length}
 use borrow.Author.Tests.{leb-true, leb-false}
-use Rattle.parsing.specs.Grammar.{fields, withFirst, numberOf, other, letterOf, pointOf, isP, formOfFields, formOf}
-use Rattle.parsing.proofs.Tokens.{number-long}
+use Rattle.text_numbers.specs.Numbers.{numberOf}
+use Rattle.parsing.specs.Grammar.{fields, withFirst, other, letterOf, pointOf, isP, formOfFields, formOf}
+use Rattle.text_numbers.proofs.LeadingDigits.{number-long}
 use Rattle.parsing.proofs.PointLines.{no-form, malformed-point, point-malformed}
 
 -- The bytes of fields, each with the byte that ends it.

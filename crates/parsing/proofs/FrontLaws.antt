@@ -12,7 +12,7 @@ use Rattle.parsing.proofs.Tokens.{Plain}
 use Rattle.newlines.specs.LineLength.{lineLength}
 use Rattle.newlines.proofs.Newlines.{line-within}
 use Rattle.parsing.specs.ReadForm.{noForm, formed}
-use Rattle.parsing.specs.Parts.{lineFront}
+use Rattle.parsing.specs.private.Parts.{lineFront}
 
 pub formed-other : (next : ℕ) → formed other next ≡ noForm
 unfolding formed

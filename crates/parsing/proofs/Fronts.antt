@@ -7,9 +7,11 @@ use native.Mathlib.Omega.{arith}
 use lib.Dec.{eqb}
 use lib.ListN.{length, drop}
 use borrow.Author.Tests.{eqb-true, eqb-false, ne-eqb}
-use Rattle.parsing.specs.Grammar.{fields, withFirst, Number, number, malformed, numberOf, Form, other, letterOf, pointOf, formOfFields, formOf}
+use Rattle.text_numbers.specs.Numbers.{Number, number, malformed, numberOf}
+use Rattle.parsing.specs.Grammar.{fields, withFirst, Form, other, letterOf, pointOf, formOfFields, formOf}
 use Rattle.parsing.specs.ReadForm.{noForm, formed}
-use Rattle.parsing.specs.Parts.{numberToken, sized, numberAt, afterX, secondForm, lineFront}
+use Rattle.text_numbers.specs.LeadingNumber.{sized}
+use Rattle.parsing.specs.private.Parts.{numberToken, numberAt, afterX, secondForm, lineFront}
 use Rattle.parsing.proofs.Tokens.{plain-token, token-split, token-size, token-over}
 use Rattle.parsing.proofs.PointLines.{second-byte, x-alone, x-over, x-tab, rest-no-tab, rest-none, y-alone, y-over, malformed-point, point-malformed}
 use Rattle.parsing.proofs.FrontLaws.{formed-other, front-end, front-step, front-same, front-none, front-skip}

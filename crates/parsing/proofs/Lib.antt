@@ -2,9 +2,7 @@ pub mod Tokens
 pub mod FrontLaws
 pub mod PointLines
 pub mod Fronts
-pub mod DigitCases
 pub mod NumberReads
-pub mod Signs
 pub mod Places
 pub mod ReadingLaw
 pub mod WorkedLines

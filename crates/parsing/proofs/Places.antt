@@ -6,10 +6,11 @@ use native.Mathlib.Omega.{arith}
 use lib.IntN.{ℤ}
 use lib.ListN.{length, drop, getD}
 use lib.Seq.{drop-drop}
-use Rattle.parsing.specs.Grammar.{Number, number, malformed, numberOf, Form, point, pointOf, formOf}
+use Rattle.text_numbers.specs.Numbers.{Number, number, malformed, numberOf}
+use Rattle.parsing.specs.Grammar.{Form, point, pointOf, formOf}
 use Rattle.parsing.specs.ReadForm.{Front, noForm, formed}
-use Rattle.parsing.specs.Parts.{numberToken, numberAt, secondForm, lineFront}
-use Rattle.parsing.specs.declared.number.NumberAt.{NumberAt}
+use Rattle.parsing.specs.private.Parts.{numberToken, numberAt, secondForm, lineFront}
+use Rattle.text_numbers.specs.declared.NumberAt.{NumberAt}
 use Rattle.parsing.proofs.Tokens.{token-size}
 use Rattle.newlines.proofs.Newlines.{byte-at}
 use Rattle.parsing.proofs.Fronts.{number-none, Found, number-some, number-size, y-ends, y-goes-on, y-malformed, past-x, x-malformed, x-no-tab, p-no-tab, p-line, long-line, letter-line, other-line}

@@ -7,9 +7,11 @@ use native.Mathlib.Omega.{arith}
 use lib.Dec.{ltb, eqb}
 use lib.ListN.{length, length-append}
 use borrow.Author.Tests.{eqb-true, eqb-false, ne-eqb, ltb-true}
-use Rattle.parsing.specs.Grammar.{fields, withFirst, Number, number, malformed, numberOf, other, letterOf, pointOf, isP, formOfFields, formOf}
-use Rattle.parsing.specs.Parts.{afterX, secondForm}
-use Rattle.parsing.proofs.Tokens.{Plain, cond-same, number-long}
+use Rattle.text_numbers.specs.Numbers.{Number, number, malformed, numberOf}
+use Rattle.parsing.specs.Grammar.{fields, withFirst, other, letterOf, pointOf, isP, formOfFields, formOf}
+use Rattle.parsing.specs.private.Parts.{afterX, secondForm}
+use Rattle.text_numbers.proofs.LeadingDigits.{cond-same, number-long}
+use Rattle.parsing.proofs.Tokens.{Plain}
 
 -- ---- fields
 

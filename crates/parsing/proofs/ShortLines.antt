@@ -11,7 +11,7 @@ use borrow.Author.Tests.{leb-true, leb-false, ltb-true, ltb-false}
 use Rattle.parsing.specs.Grammar.{fields, letterOf, formOfFields, formOf}
 use Rattle.newlines.specs.LineLength.{lineLength}
 use Rattle.parsing.specs.ReadForm.{Front, formed, formAt}
-use Rattle.parsing.specs.Parts.{lineFront, copiedOnto}
+use Rattle.parsing.specs.private.Parts.{lineFront, copiedOnto}
 use Rattle.parsing.proofs.FrontLaws.{front-closed, front-further-on, front-next}
 
 -- ---- the copy

@@ -5,7 +5,8 @@ use mathlib.Core.List.{List, [], _∷_, _++_, map}
 use Prim.Native.Nat.{ℕ, zero, suc, _+_}
 use lib.IntN.{pos, negsuc}
 use lib.ListN.{replicate}
-use Rattle.parsing.specs.Grammar.{allDigits, valueFrom, leadingZero, isNatural, numberOf, negativeOf, naturalOf, fields, withFirst, letterOf, pointOf, isP, formOfFields, formOf, Form, begin, end, abandon, point, other}
+use Rattle.text_numbers.specs.Numbers.{allDigits, valueFrom, leadingZero, isNatural, numberOf, negativeOf, naturalOf}
+use Rattle.parsing.specs.Grammar.{fields, withFirst, letterOf, pointOf, isP, formOfFields, formOf, Form, begin, end, abandon, point, other}
 use Rattle.newlines.specs.LineLength.{lineLength}
 use Rattle.parsing.specs.ReadForm.{noForm, formed, formAt}
 

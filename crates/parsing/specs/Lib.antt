@@ -1,3 +1,3 @@
 pub mod Grammar
 pub mod ReadForm
-pub mod Parts
+pub mod private

@@ -3,11 +3,23 @@ ghost use mathlib.Core.Path.{_≡_};
 ghost use mathlib.Core.List.{_∷_};
 ghost use Prim.Native.Nat.{_+_, _≤_};
 ghost use lib.ListN.{length, drop};
-ghost use Rattle.parsing.specs.Grammar.{number, formOf};
+ghost use Rattle.text_numbers.specs.Numbers.{number};
+ghost use Rattle.parsing.specs.Grammar.{formOf};
 ghost use Rattle.parsing.specs.ReadForm.{reading};
-ghost use Rattle.parsing.specs.Parts.{secondForm, lineFront};
+ghost use Rattle.parsing.specs.private.Parts.{numberAt, secondForm, lineFront};
 use crate::LineForm;
-use crate::number::read_number;
+use text_numbers::NumberAt;
+use text_numbers::leading_number;
+
+// The number at `at`, where as many bytes are left as the longest takes.
+fn read_number(s: &[u8], at: usize) -> NumberAt
+    requires { ⌜ at + 5 ≤ length (now s) ⌝ }
+    ensures { λ r. ⌜ r ≡ numberAt (drop at (now (s .entry))) ⌝ }
+{
+    let minus = s[at] == 45;
+    let i = at + minus as usize;
+    leading_number(minus, s[i], s[i + 1], s[i + 2], s[i + 3])
+}
 
 // After x: a tab, y and a newline.
 fn second(s: &[u8], x: i32, at: usize) -> LineForm

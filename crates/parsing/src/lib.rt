@@ -1,6 +1,5 @@
 // The form of the line at a place of a chunk: document 01, "The text program".
 mod form;
-mod number;
 mod short;
 
 ghost use mathlib.Core.Path.{_≡_};

@@ -6,7 +6,7 @@ ghost use lib.Dec.{ltb};
 ghost use lib.ListN.{length, drop};
 ghost use Rattle.parsing.specs.Grammar.{formOf};
 ghost use Rattle.parsing.specs.ReadForm.{formed, reading};
-ghost use Rattle.parsing.specs.Parts.{lineFront, copiedOnto};
+ghost use Rattle.parsing.specs.private.Parts.{lineFront, copiedOnto};
 use crate::LineForm;
 use crate::form::whole_form;
 use integers::lesser;

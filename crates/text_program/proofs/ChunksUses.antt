@@ -14,7 +14,8 @@ use Rattle.outline.specs.ListCall.{outside}
 use Rattle.outline.specs.WalkCalls.{origin, closed, newSheet, extended, impossibleWalk, impossibleSheet, beginCall, pointCall, endCall}
 use Rattle.text_program.specs.declared.State.{State}
 use Rattle.centroid.specs.Centroid.{outlineCentroidCall}
-use Rattle.parsing.specs.Grammar.{allDigits, valueFrom, leadingZero, isNatural, naturalOf, numberOf, withFirst, fields, letterOf, pointOf, isP, formOfFields, formOf}
+use Rattle.text_numbers.specs.Numbers.{allDigits, valueFrom, leadingZero, isNatural, naturalOf, numberOf}
+use Rattle.parsing.specs.Grammar.{withFirst, fields, letterOf, pointOf, isP, formOfFields, formOf}
 use Rattle.newlines.specs.LineLength.{lineLength}
 use Rattle.printing.specs.Output.{digits, decimal, signed, totalsText, centreText, refusalLine, sheetLine}
 use Rattle.text_program.specs.Program.{carriedWalk, carriedEnd, carryOut, program}

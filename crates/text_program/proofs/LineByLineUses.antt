@@ -12,8 +12,9 @@ use Rattle.outline.specs.WalkCalls.{closed, newSheet, extended, impossibleWalk,
 use Rattle.outline.specs.CallLists as Calls
 use Rattle.outline.specs.CallLists.{Trace, from, numberOf, walkAfter, pointsWith, next}
 use Rattle.centroid.specs.Centroid.{isCentre, firstCentre, centre, signedBy, outlineCentroidCall}
-use Rattle.parsing.specs.Grammar as Grammar
-use Rattle.parsing.specs.Grammar.{begin, point, allDigits, valueFrom, leadingZero, isNatural, naturalOf, withFirst, fields, letterOf, pointOf, isP, formOfFields, formOf}
+use Rattle.text_numbers.specs.Numbers as Numbers
+use Rattle.text_numbers.specs.Numbers.{allDigits, valueFrom, leadingZero, isNatural, naturalOf}
+use Rattle.parsing.specs.Grammar.{begin, point, withFirst, fields, letterOf, pointOf, isP, formOfFields, formOf}
 use Rattle.printing.specs.Output.{digits, decimal, signed, totalsText, centreText, outlineLine, refusalLine, sheetLine}
 use Rattle.text_program.specs.Program.{Line, linesFrom, tooFar, program}
 use Rattle.text_program.specs.LineByLine.{callOf, formless, silent, outline, refused, Output, ends, far, near}
@@ -30,7 +31,7 @@ abbrev ones : Totals
 ones = record { a2 = pos 1; x6 = pos 1; y6 = pos 1; xx12 = pos 1; xy24 = pos 1; yy12 = pos 1 }
 
 by-cases : Output (from closed) newSheet (linesFrom 0 0 [] input) output
-unfolding openEdges edges sumOver over exceed points numbers outside anyOutside wrongLength listCall extended impossibleWalk impossibleSheet beginCall pointCall endCall numberOf walkAfter pointsWith next isCentre firstCentre centre signedBy outlineCentroidCall allDigits valueFrom leadingZero isNatural naturalOf Grammar.numberOf withFirst fields letterOf pointOf isP formOfFields formOf digits decimal signed totalsText centreText outlineLine refusalLine sheetLine linesFrom tooFar callOf isEnd
+unfolding openEdges edges sumOver over exceed points numbers outside anyOutside wrongLength listCall extended impossibleWalk impossibleSheet beginCall pointCall endCall numberOf walkAfter pointsWith next isCentre firstCentre centre signedBy outlineCentroidCall allDigits valueFrom leadingZero isNatural naturalOf Numbers.numberOf withFirst fields letterOf pointOf isP formOfFields formOf digits decimal signed totalsText centreText outlineLine refusalLine sheetLine linesFrom tooFar callOf isEnd
 by-cases =
     near _ _ refl (silent Calls.begin refl (not-end begin refl) refl)
     (near _ _ refl (silent (Calls.point (record { x = pos 0; y = pos 0 })) refl (not-end (point (pos 0) (pos 0)) refl) refl)

@@ -11,7 +11,8 @@ use Rattle.outline.specs.EdgeSums.{over, exceed}
 use Rattle.outline.specs.ListCall.{outside}
 use Rattle.outline.specs.WalkCalls.{extended, impossibleWalk, impossibleSheet, beginCall, pointCall, endCall, abandonCall}
 use Rattle.centroid.specs.Centroid.{isCentre, firstCentre, centre, signedBy, outlineCentroidCall}
-use Rattle.parsing.specs.Grammar.{allDigits, valueFrom, leadingZero, isNatural, negativeOf, naturalOf, numberOf, withFirst, fields, letterOf, pointOf, isP, formOfFields, formOf}
+use Rattle.text_numbers.specs.Numbers.{allDigits, valueFrom, leadingZero, isNatural, negativeOf, naturalOf, numberOf}
+use Rattle.parsing.specs.Grammar.{withFirst, fields, letterOf, pointOf, isP, formOfFields, formOf}
 use Rattle.printing.specs.Output.{digits, decimal, signed, totalsText, centreText, outlineLine, refusalLine, sheetLine}
 use Rattle.text_program.specs.Program.{linesFrom, tooFar, carriedWalk, carriedEnd, carryOut, outputOf, program}
 

@@ -6,8 +6,8 @@ use lib.IntN.{ℤ}
 use lib.ListN.{drop}
 use mir.Syntax.{w32}
 use mir.Val.{toZ, ofZ}
-use Rattle.parsing.specs.Grammar.{number}
-use Rattle.parsing.specs.Parts.{secondForm, lineFront}
+use Rattle.text_numbers.specs.Numbers.{number}
+use Rattle.parsing.specs.private.Parts.{secondForm, lineFront}
 use Rattle.parsing.proofs.Places.{point-no-tab, point-malformed-x, point-rest, size-small}
 use borrow.Author.Needs.{needs}
 use Rattle.parsing.proofs.form.point_form.Statement.{statement}

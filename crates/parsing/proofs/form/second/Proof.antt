@@ -3,7 +3,7 @@ use mathlib.Core.Path.{_≡_}
 use native.Mathlib.Omega.{arith}
 use mir.Syntax.{w32}
 use mir.Val.{toZ, ofZ}
-use Rattle.parsing.specs.Grammar.{number}
+use Rattle.text_numbers.specs.Numbers.{number}
 use Rattle.parsing.proofs.Places.{second-no-tab, second-malformed, second-goes-on, second-ends, size-small}
 use borrow.Author.Needs.{needs}
 use Rattle.parsing.proofs.form.second.Statement.{statement}

@@ -1,7 +1,7 @@
 -- `no_digit` says that a byte is below 48 or above 57.
-use Rattle.parsing.proofs.DigitCases.{below-digit, above-digit}
-use Rattle.parsing.proofs.number.no_digit.Statement.{statement}
-use Rattle.parsing.proofs.number.no_digit.Tie as tie
+use Rattle.text_numbers.proofs.DigitCases.{below-digit, above-digit}
+use Rattle.text_numbers.proofs.no_digit.Statement.{statement}
+use Rattle.text_numbers.proofs.no_digit.Tie as tie
 
 returns : tie.Need-returns
 returns c = below-digit (c .before .args .b) (c .if1 .taken)

@@ -7,10 +7,11 @@ use native.Mathlib.Omega.{arith}
 use lib.Dec.{leb, ltb, eqb}
 use lib.ListN.{length}
 use borrow.Author.Tests.{not-true, not-false, leb-true, leb-false, le-leb, lt-leb, eq-eqb, ne-eqb}
-use Rattle.parsing.specs.Grammar.{isDigit, allDigits, valueFrom, leadingZero, isNatural}
-use Rattle.parsing.specs.Parts.{leadingDigits, digitsAt}
-use Rattle.parsing.specs.declared.number.DigitsAt.{DigitsAt}
-use Rattle.parsing.proofs.Tokens.{Digit, digit-bounds}
+use Rattle.text_numbers.specs.Numbers.{isDigit, allDigits, valueFrom, leadingZero, isNatural}
+use Rattle.text_numbers.specs.LeadingNumber.{leadingDigits}
+use Rattle.text_numbers.specs.private.Digits.{digitsAt}
+use Rattle.text_numbers.specs.declared.DigitsAt.{DigitsAt}
+use Rattle.text_numbers.proofs.LeadingDigits.{Digit, digit-bounds}
 
 -- ---- one byte
 
@@ -109,17 +110,17 @@ module _ (m : Bool) (a b c d : ℕ) where
           four hd = digits-are m (a ∷ b ∷ c ∷ d ∷ []) (a ∷ b ∷ c ∷ d ∷ []) (10 * (10 * (10 * a + b - 528) + c - 48) + d - 48) (rw (ha, hb, hc, hd)) (rw (ha, hb, hc, hd, ne-eqb a 48 z)) (next-value (digit-bounds d hd) value-three positive-three) (positive m (10 * (10 * (10 * a + b - 528) + c - 48) + d - 48) (next-positive (digit-bounds d hd) value-three positive-three))
 
 -- One digit: 0 takes no minus.
-module _ (m a : ℕ) (ha : isDigit a ≡ true) where
-  pub minus-zero : m ≡ 1 → a ≡ 48 → _≡_ {A = DigitsAt} (record { value = 0; size = 0 }) (digitsAt (eqb m 1) (a ∷ []))
+module _ (m : Bool) (a : ℕ) (ha : isDigit a ≡ true) where
+  pub minus-zero : m ≡ true → a ≡ 48 → _≡_ {A = DigitsAt} (record { value = 0; size = 0 }) (digitsAt m (a ∷ []))
   unfolding digitsAt leadingDigits isNatural allDigits leadingZero valueFrom
-  minus-zero h z = rw (ha, ha, eq-eqb m 1 h, z)
+  minus-zero h z = rw (ha, ha, h, z)
 
-  single : (eqb m 1 && eqb (a - 48) 0) ≡ false → _≡_ {A = DigitsAt} (record { value = a - 48; size = 1 }) (digitsAt (eqb m 1) (a ∷ []))
+  single : (m && eqb (a - 48) 0) ≡ false → _≡_ {A = DigitsAt} (record { value = a - 48; size = 1 }) (digitsAt m (a ∷ []))
   unfolding leadingDigits isNatural allDigits leadingZero valueFrom
-  single = digits-are (eqb m 1) (a ∷ []) (a ∷ []) (a - 48) (rw ha) (rw ha) (omega arith)
+  single = digits-are m (a ∷ []) (a ∷ []) (a - 48) (rw ha) (rw ha) (omega arith)
 
-  pub plain-digit : (m ≡ 1 → ⊥) → _≡_ {A = DigitsAt} (record { value = a - 48; size = 1 }) (digitsAt (eqb m 1) (a ∷ []))
-  plain-digit h = single (rw (ne-eqb m 1 h))
+  pub plain-digit : m ≡ false → _≡_ {A = DigitsAt} (record { value = a - 48; size = 1 }) (digitsAt m (a ∷ []))
+  plain-digit h = single (rw h)
 
-  pub not-zero : (a ≡ 48 → ⊥) → _≡_ {A = DigitsAt} (record { value = a - 48; size = 1 }) (digitsAt (eqb m 1) (a ∷ []))
-  not-zero z = let k = digit-bounds a ha in single (positive (eqb m 1) (a - 48) (omega arith))
+  pub not-zero : (a ≡ 48 → ⊥) → _≡_ {A = DigitsAt} (record { value = a - 48; size = 1 }) (digitsAt m (a ∷ []))
+  not-zero z = let k = digit-bounds a ha in single (positive m (a - 48) (omega arith))

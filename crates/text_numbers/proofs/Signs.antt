@@ -1,11 +1,11 @@
--- A small number as a signed one, and its negation.
-use Prim.Native.Nat.{ℕ, zero, suc, _<_}
-use mathlib.Core.Path.{_≡_, sym, ap, _∙_, subst}
+-- A small number as a signed one, and its negation; a minus as the number of its bytes.
+use Prim.Native.Nat.{ℕ, zero, suc, _<_, _≤_}
+use mathlib.Core.Path.{_≡_, refl, sym, ap, _∙_, subst}
 use mathlib.Core.Bool.{Bool, true, false, cond}
 use native.Mathlib.Omega.{arith}
 use lib.IntN.{ℤ, pos, negℤ, _-ℤ_, +ℤ-idl}
 use mir.Syntax.{w32}
-use mir.Val.{SFits, toZ, ofZ}
+use mir.Val.{SFits, toZ, ofZ, boolByte}
 use mir.ValLaws.{toZ-ofZ}
 
 module _ (k : ℕ) (h : k < 10000) where
@@ -35,3 +35,12 @@ sign-read m k h z e = toZ-ofZ w32 z (subst (SFits w32) (sym e) (go m)) ∙ e
     go : (t : Bool) → SFits w32 (cond t (negℤ (pos k)) (pos k))
     go true = neg-fits k h
     go false = pos-fits k h
+
+-- The code adds the minus as a number.
+pub minus-byte : (m : Bool) → cond m 1 0 ≡ boolByte m
+minus-byte true = refl
+minus-byte false = refl
+
+pub minus-small : (m : Bool) → boolByte m ≤ 1
+minus-small true = omega arith
+minus-small false = omega arith

@@ -1,35 +1,20 @@
 -- What the parts of `line_form` read: a number at the front of bytes, the rest of a point's line after its x, a line by any rule for its form, and a copy.
-use Prim.Native.Nat.{ℕ, _+_, _<_}
-use mathlib.Core.Bool.{Bool, not, _&&_, cond}
+use Prim.Native.Nat.{ℕ, _+_}
+use mathlib.Core.Bool.{cond}
 use mathlib.Core.List.{List, [], _∷_, _++_}
 use lib.Dec.{eqb}
 use lib.ListN.{length, take, drop}
-use lib.IntN.{pos}
-use Rattle.parsing.specs.Grammar.{isDigit, valueFrom, isNatural, Number, number, malformed, numberOf, fields, Form, other, pointOf}
 use Rattle.newlines.specs.LineLength.{lineLength}
+use Rattle.text_numbers.specs.Numbers.{Number, numberOf}
+use Rattle.text_numbers.specs.LeadingNumber.{leadingDigits, sized}
+use Rattle.text_numbers.specs.declared.NumberAt.{NumberAt}
+use Rattle.parsing.specs.Grammar.{fields, Form, other, pointOf}
 use Rattle.parsing.specs.ReadForm.{Front, formed}
-use Rattle.parsing.specs.declared.number.NumberAt.{NumberAt}
-use Rattle.parsing.specs.declared.number.DigitsAt.{DigitsAt}
-
--- The digits that bytes begin with.
-unfoldable pub leadingDigits : List ℕ → List ℕ
-leadingDigits [] = []
-leadingDigits (b ∷ bs) = cond (isDigit b) (b ∷ leadingDigits bs) []
-
--- Of four bytes: the value and the size of the natural that they begin with; zeros where it is none, or 0 after a minus.
-unfoldable pub digitsAt : Bool → List ℕ → DigitsAt
-digitsAt minus bs =
-    let ds = leadingDigits bs in
-    cond (isNatural ds && not (minus && eqb (valueFrom 0 ds) 0)) (record { value = valueFrom 0 ds; size = length ds }) (record { value = 0; size = 0 })
 
 -- A minus, if there is one, and the digits behind it, four at most.
 unfoldable pub numberToken : List ℕ → List ℕ
 numberToken [] = []
 numberToken (b ∷ bs) = cond (eqb b 45) (b ∷ leadingDigits (take 4 bs)) (leadingDigits (take 4 (b ∷ bs)))
-
-unfoldable pub sized : Number → ℕ → NumberAt
-sized (number z) size = record { value = z; size = size }
-sized malformed size = record { value = pos 0; size = 0 }
 
 -- The value and the size of the number that bytes begin with; zeros where it is malformed.
 unfoldable pub numberAt : List ℕ → NumberAt
@@ -50,13 +35,6 @@ secondForm x bs = afterX x (fields bs)
 unfoldable pub lineFront : (List ℕ → Form) → List ℕ → ℕ → Front
 lineFront rule bs at = let n = lineLength bs in formed (rule (take n bs)) (at + n + 1)
 
--- Bytes over the first of others.
+-- Others, with bytes in place of the first of them.
 abbrev pub copiedOnto : List ℕ → List ℕ → List ℕ
 copiedOnto bs others = bs ++ drop (length bs) others
-
--- Four bytes, so that no sum of theirs wraps.
-pub record Bytes (a b c d : ℕ) : Type 0 where
-  pub a-byte : a < 256
-  pub b-byte : b < 256
-  pub c-byte : c < 256
-  pub d-byte : d < 256

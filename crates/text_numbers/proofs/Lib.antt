@@ -1,0 +1,4 @@
+pub mod LeadingDigits
+mod DigitCases
+pub mod Signs
+mod SignedDigits
