@@ -7,8 +7,8 @@ use lib.IntN.{ℤ, pos, negsuc}
 use Rattle.outline.specs.declared.Walk.{Walk}
 use Rattle.outline.specs.EdgeSums.{zeros, over, exceed}
 use Rattle.outline.specs.ListCall.{points, outside, anyOutside, wrongLength, listCall}
-use Rattle.outline.specs.WalkCalls.{origin, opened, closed, newSheet, edgeTotals, extended, impossibleWalk, impossibleSheet, refusedWalk, refusedEnd, beginCall, pointCall, endCall, abandonCall}
-use Rattle.outline.proofs.WorkedInputs.{at, area, openWith, openOf, leftover, sheetOf}
+use Rattle.outline.specs.WalkCalls.{origin, openWalk, opened, closed, sheetOf, newSheet, edgeTotals, extended, impossibleWalk, impossibleSheet, refusedWalk, refusedEnd, beginCall, pointCall, endCall, abandonCall}
+use Rattle.outline.proofs.WorkedInputs.{at, area, openOf, leftover}
 
 -- ---- one edge, from (2,3) to (7,11), whose cross product is 1: the terms of the table, which decide for a walk still open
 
@@ -70,10 +70,10 @@ sheets = record { too-many = refl; taken = refl }
 -- ---- an open walk of no points: its first and last are not looked at, its totals are
 
 abbrev pointless : Walk
-pointless = openWith 0 (at (pos 99_999) (negsuc 4)) (at (negsuc 4) (pos 99_999)) zeros
+pointless = openWalk 0 (at (pos 99_999) (negsuc 4)) (at (negsuc 4) (pos 99_999)) zeros
 
 record NoPoints : Type 0 where
-  point : pointCall pointless (at (pos 3) (pos 4)) ≡ record { number = 0; walk = openWith 1 (at (pos 3) (pos 4)) (at (pos 3) (pos 4)) zeros }
+  point : pointCall pointless (at (pos 3) (pos 4)) ≡ record { number = 0; walk = openWalk 1 (at (pos 3) (pos 4)) (at (pos 3) (pos 4)) zeros }
   begin : beginCall pointless ≡ refusedWalk 22 pointless
   end : endCall pointless newSheet ≡ refusedEnd 24 pointless newSheet
   abandon : abandonCall pointless ≡ record { number = 0; walk = closed }
@@ -86,11 +86,11 @@ no-points = record { point = refl; begin = refl; end = refl; abandon = refl; are
 -- ---- what an accepted call leaves of a walk handed in, its last point (9,9) not its first
 
 abbrev handed : ℕ → Walk
-handed n = openWith n (at (pos 1) (pos 2)) (at (pos 9) (pos 9)) (area 5)
+handed n = openWalk n (at (pos 1) (pos 2)) (at (pos 9) (pos 9)) (area 5)
 
 record Left : Type 0 where
   -- the edge from (9,9) to (2,3) more
-  point : pointCall (handed 1) (at (pos 2) (pos 3)) ≡ record { number = 0; walk = openWith 2 (at (pos 1) (pos 2)) (at (pos 2) (pos 3)) (record { a2 = pos 14; x6 = pos 99; y6 = pos 108; xx12 = pos 927; xy24 = pos 1971; yy12 = pos 1053 }) }
+  point : pointCall (handed 1) (at (pos 2) (pos 3)) ≡ record { number = 0; walk = openWalk 2 (at (pos 1) (pos 2)) (at (pos 2) (pos 3)) (record { a2 = pos 14; x6 = pos 99; y6 = pos 108; xx12 = pos 927; xy24 = pos 1971; yy12 = pos 1053 }) }
   -- the edge from (9,9) to (1,2) more
   end : endCall (handed 3) (sheetOf 7 (area 2)) ≡ record { number = 0; totals = record { a2 = pos 14; x6 = pos 90; y6 = pos 99; xx12 = pos 819; xy24 = pos 1737; yy12 = pos 927 }; walk = closed; sheet = sheetOf 8 (record { a2 = pos 16; x6 = pos 90; y6 = pos 99; xx12 = pos 819; xy24 = pos 1737; yy12 = pos 927 }) }
   abandon : abandonCall (handed 3) ≡ record { number = 0; walk = closed }
@@ -103,12 +103,12 @@ left = record { point = refl; end = refl; abandon = refl }
 
 record HandedIn : Type 0 where
   -- 28 asks for no agreement of first, last and totals, only for the share of the points
-  one-point : pointCall (openWith 1 origin (at (pos 9) (pos 9)) (area 8_000_000)) origin .number ≡ 0
-  above-the-share : pointCall (openWith 1 origin (at (pos 9) (pos 9)) (area 8_000_001)) origin .number ≡ 28
+  one-point : pointCall (openWalk 1 origin (at (pos 9) (pos 9)) (area 8_000_000)) origin .number ≡ 0
+  above-the-share : pointCall (openWalk 1 origin (at (pos 9) (pos 9)) (area 8_000_001)) origin .number ≡ 28
   three-points : endCall (openOf 3 (area 24_000_000)) newSheet .totals ≡ area 24_000_000
   one-more : endCall (openOf 3 (area 24_000_001)) newSheet .number ≡ 28
   -- an end may answer more than an outline's bound
-  large : endCall (openWith 1024 (at (pos 2000) (pos 2000)) (at (pos 2000) (negsuc 1999)) (area 8_192_000_000)) newSheet .totals .a2 ≡ pos 8_200_000_000
+  large : endCall (openWalk 1024 (at (pos 2000) (pos 2000)) (at (pos 2000) (negsuc 1999)) (area 8_192_000_000)) newSheet .totals .a2 ≡ pos 8_200_000_000
   -- an open walk that 28 refuses cannot be abandoned
   too-long : abandonCall (openOf 1025 zeros) ≡ refusedWalk 28 (openOf 1025 zeros)
 

@@ -15,7 +15,7 @@ use Rattle.outline.specs.declared.Sheet.{Sheet}
 use Rattle.outline.specs.EdgeSums.{openEdges, sumOver, outlineTotals, over, exceed}
 use Rattle.outline.specs.ListCall.{accepted, points, listCall}
 use Rattle.outline.specs.MapCall.{totalLimits}
-use Rattle.outline.specs.WalkCalls.{closed, newSheet, impossibleSheet, beginCall, pointCall, endCall}
+use Rattle.outline.specs.WalkCalls.{newSheet, impossibleSheet, beginCall, pointCall, endCall}
 use Rattle.outline.specs.CallLists.{begin, point, end, numberOf, walkAfter, pointsWith, next, after, from, walkOf}
 use Rattle.outline.specs.EveryOutline.{answers, Room, endedWith, EveryOutline}
 use Rattle.outline.proofs.Every.{All, all-append, all-member}

@@ -1,6 +1,6 @@
 -- The walk that has taken given points: one point more, its closing edge, and why 28 takes it.
 use mathlib.Core.Path.{_≡_, refl, sym}
-use mathlib.Core.Bool.{true, false, not, _&&_, _||_}
+use mathlib.Core.Bool.{false, not, _&&_, _||_}
 use mathlib.Core.List.{List, [], _∷_, _++_}
 use Prim.Native.Nat.{suc, _+_, _≤_}
 use native.Mathlib.Omega.{arith}
@@ -12,7 +12,7 @@ use Rattle.outline.specs.declared.Position.{Position}
 use Rattle.outline.specs.declared.Walk.{Walk}
 use Rattle.outline.specs.EdgeSums.{plus, openEdges, edges, sumOver, totalsOver, outlineTotals}
 use Rattle.outline.specs.ListCall.{outside}
-use Rattle.outline.specs.WalkCalls.{origin, edgeTotals, extended, closedTotals, share, impossibleWalk}
+use Rattle.outline.specs.WalkCalls.{origin, openWalk, edgeTotals, extended, closedTotals, share, impossibleWalk}
 use Rattle.outline.specs.CallLists.{firstOf, lastOf, walkOf}
 use Rattle.integers.proofs.Flags.{neither}
 use Rattle.outline.proofs.Every.{All, all-at}
@@ -29,7 +29,7 @@ first-point w p e = rw e
 pub extended-is : (ps : List Position) (p : Position) → extended (walkOf ps) p ≡ walkOf (ps ++ p ∷ [])
 unfolding extended openEdges sumOver
 extended-is [] p = refl
-extended-is (a ∷ ps) p = rw (eqb·suc-zero (length ps)) (λ i. record { is_open = true; count = n i; first = a; last = l i; totals = s i })
+extended-is (a ∷ ps) p = rw (eqb·suc-zero (length ps)) (λ i. openWalk (n i) a (l i) (s i))
   where
     n : suc (length ps) + 1 ≡ suc (length (ps ++ p ∷ []))
     n = omega (arith, length-append ps (p ∷ []))

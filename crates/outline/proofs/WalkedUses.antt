@@ -15,12 +15,12 @@ use Rattle.outline.specs.EdgeSums.{openEdges, edges, sumOver, over, exce
 use Rattle.outline.specs.ListCall.{accepted, points, numbers, outside, anyOutside, listCall}
 use Rattle.outline.specs.MapCall.{moved, disallowed, mapCall}
 use Rattle.outline.specs.Pieces.{Cut, piecesOf, startAt, Direction, backwards, walked, placed, totalsOf, sumOf, directed}
-use Rattle.outline.specs.WalkCalls.{origin, closed, newSheet, extended, sheetWith, impossibleWalk, impossibleSheet, beginCall, pointCall, endCall, abandonCall}
+use Rattle.outline.specs.WalkCalls.{origin, closed, sheetOf, newSheet, extended, sheetWith, impossibleWalk, impossibleSheet, beginCall, pointCall, endCall, abandonCall}
 use Rattle.outline.specs.CallLists.{begin, point, end, abandon, numberOf, walkAfter, impossibleSheetIn, pointsWith, next, after, from, walkOf, sheetAfter, addedBy, Walking, reached, outlinesOn}
 use Rattle.outline.specs.PiecesAddUp.{AddUpMoved}
 use Rattle.outline.specs.EveryOutline.{answers, Room, Walkable}
 use Rattle.outline.specs.SheetSums.{HoldsSums}
-use Rattle.outline.proofs.WorkedInputs.{at, openOf, leftover, sheetOf}
+use Rattle.outline.proofs.WorkedInputs.{at, openOf, leftover}
 use Rattle.outline.proofs.PiecesUses.{pentagon, pentagonTotals, pentagon-taken, cuts, starts, flat, flat-allowed, flat-bounds, mirror, mirrored, mirror-allowed, mirror-bounds, mirror-answer}
 use Rattle.outline.proofs.PiecesLaws.{same-sum}
 use Rattle.outline.proofs.WalkedOutline.{walked-outline, walked-pieces}

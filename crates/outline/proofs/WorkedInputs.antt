@@ -1,5 +1,5 @@
 -- Positions, totals, walks, sheets and a map that the worked facts are computed at.
-use mathlib.Core.Bool.{true, false}
+use mathlib.Core.Bool.{false}
 use mathlib.Core.List.{List, [], _∷_}
 use Prim.Native.Nat.{ℕ}
 use lib.IntN.{ℤ, pos}
@@ -8,8 +8,7 @@ use Rattle.outline.specs.declared.Totals.{Totals}
 use Rattle.outline.specs.declared.Sizes.{Sizes}
 use Rattle.outline.specs.declared.AffineMap.{AffineMap}
 use Rattle.outline.specs.declared.Walk.{Walk}
-use Rattle.outline.specs.declared.Sheet.{Sheet}
-use Rattle.outline.specs.WalkCalls.{origin}
+use Rattle.outline.specs.WalkCalls.{origin, openWalk}
 
 abbrev pub at : ℤ → ℤ → Position
 at x y = record { x = x; y = y }
@@ -29,19 +28,17 @@ eachAlone f b =
     ∷ record { a2 = pos 0; x6 = pos 0; y6 = pos 0; xx12 = pos 0; xy24 = pos 0; yy12 = f (b .yy12) }
     ∷ []
 
-abbrev pub openWith : ℕ → Position → Position → Totals → Walk
-openWith n first last t = record { is_open = true; count = n; first = first; last = last; totals = t }
-
 -- An open walk of n points that are all the origin.
 abbrev pub openOf : ℕ → Totals → Walk
-openOf n t = openWith n origin origin t
+openOf n t = openWalk n origin origin t
+
+-- The walk marked closed, all else as it is.
+abbrev pub markedClosed : Walk → Walk
+markedClosed w = record { is_open = false; count = w .count; first = w .first; last = w .last; totals = w .totals }
 
 -- Marked closed, with fields that no call leaves, and that 28 refuses of an open walk.
 abbrev pub leftover : Walk
-leftover = record { is_open = false; count = 1025; first = at (pos 1) (pos 2); last = origin; totals = area 5 }
-
-abbrev pub sheetOf : ℕ → Totals → Sheet
-sheetOf n t = record { count = n; totals = t }
+leftover = markedClosed (openWalk 1025 (at (pos 1) (pos 2)) origin (area 5))
 
 -- The map that doubles.
 abbrev pub doubling : AffineMap

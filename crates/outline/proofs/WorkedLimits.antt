@@ -12,9 +12,9 @@ use Rattle.outline.specs.declared.AffineMap.{AffineMap}
 use Rattle.outline.specs.EdgeSums.{zeros, over, exceed}
 use Rattle.outline.specs.ListCall.{points, outside, anyOutside, wrongLength, listCall}
 use Rattle.outline.specs.MapCall.{disallowed, mapCall}
-use Rattle.outline.specs.WalkCalls.{origin, opened, closed, newSheet, extended, impossibleWalk, impossibleSheet, pointCall, endCall, abandonCall}
+use Rattle.outline.specs.WalkCalls.{origin, openWalk, opened, closed, sheetOf, newSheet, extended, impossibleWalk, impossibleSheet, pointCall, endCall, abandonCall}
 use Rattle.outline.proofs.PiecesLaws.{identity}
-use Rattle.outline.proofs.WorkedInputs.{at, eachAlone, openWith, openOf, sheetOf, doubling}
+use Rattle.outline.proofs.WorkedInputs.{at, eachAlone, openOf, doubling}
 
 -- ---- the six totals
 
@@ -71,7 +71,7 @@ unfolding over exceed outside impossibleWalk impossibleSheet endCall
 filled = record { up = refl; down = refl }
 
 -- The closing edge, from (0,1) to (1,0), adds -1 to each total: 26 looks at the sums with it.
-with-closing-edge : map (λ t. endCall (openWith 3 (at (pos 1) (pos 0)) (at (pos 0) (pos 1)) t) (sheetOf 0 (allTotals (pos 1_000_000_000_000_000_000))) .number) (eachAlone pos (allSizes 1) ++ eachAlone pos (allSizes 2)) ≡ replicate 6 0 ++ replicate 6 26
+with-closing-edge : map (λ t. endCall (openWalk 3 (at (pos 1) (pos 0)) (at (pos 0) (pos 1)) t) (sheetOf 0 (allTotals (pos 1_000_000_000_000_000_000))) .number) (eachAlone pos (allSizes 1) ++ eachAlone pos (allSizes 2)) ≡ replicate 6 0 ++ replicate 6 26
 unfolding over exceed outside impossibleWalk impossibleSheet endCall
 with-closing-edge = refl
 
@@ -122,8 +122,8 @@ record Coordinates : Type 0 where
   first-listed : map (λ p. listCall (p .x ∷ p .y ∷ pos 0 ∷ pos 0 ∷ pos 1 ∷ pos 1 ∷ []) .number) (inside ++ beyond) ≡ replicate 4 0 ++ replicate 4 1
   last-listed : map (λ p. listCall (pos 0 ∷ pos 0 ∷ pos 1 ∷ pos 1 ∷ p .x ∷ p .y ∷ []) .number) (inside ++ beyond) ≡ replicate 4 0 ++ replicate 4 1
   -- 28, of the first and the last point of a walk
-  first-walked : map (λ p. abandonCall (openWith 1 p origin zeros) .number) (inside ++ beyond) ≡ replicate 4 0 ++ replicate 4 28
-  last-walked : map (λ p. abandonCall (openWith 1 origin p zeros) .number) (inside ++ beyond) ≡ replicate 4 0 ++ replicate 4 28
+  first-walked : map (λ p. abandonCall (openWalk 1 p origin zeros) .number) (inside ++ beyond) ≡ replicate 4 0 ++ replicate 4 28
+  last-walked : map (λ p. abandonCall (openWalk 1 origin p zeros) .number) (inside ++ beyond) ≡ replicate 4 0 ++ replicate 4 28
 
 coordinates : Coordinates
 unfolding over exceed points outside anyOutside wrongLength listCall extended impossibleWalk pointCall abandonCall

@@ -1,7 +1,6 @@
 -- Document 01's orders of refusals for lists, maps, walks and sheets, by computation: for each two refusals of a call that one input can meet, such an input,
 -- and the one that comes first. (28 looks at open walks only, so that 28 and 21 meet in end alone, for its sheet.)
 use mathlib.Core.Path.{_≡_, refl}
-use mathlib.Core.Bool.{false}
 use mathlib.Core.List.{[], _∷_, map}
 use lib.IntN.{pos}
 use lib.ListN.{replicate}
@@ -12,8 +11,8 @@ use Rattle.outline.specs.declared.Walk.{Walk}
 use Rattle.outline.specs.EdgeSums.{zeros, over, exceed}
 use Rattle.outline.specs.ListCall.{points, outside, anyOutside, wrongLength, listCall}
 use Rattle.outline.specs.MapCall.{disallowed, mapCall}
-use Rattle.outline.specs.WalkCalls.{origin, closed, newSheet, impossibleWalk, impossibleSheet, beginCall, pointCall, endCall, abandonCall}
-use Rattle.outline.proofs.WorkedInputs.{at, area, openOf, sheetOf, doubling}
+use Rattle.outline.specs.WalkCalls.{origin, closed, sheetOf, newSheet, impossibleWalk, impossibleSheet, beginCall, pointCall, endCall, abandonCall}
+use Rattle.outline.proofs.WorkedInputs.{at, area, openOf, markedClosed, doubling}
 
 -- A point that 1 refuses.
 abbrev far : Position
@@ -25,10 +24,10 @@ impossible = openOf 1025 zeros
 
 -- Walks marked closed that are full, and that have enough points and an area.
 abbrev closedFull : Walk
-closedFull = record { is_open = false; count = 1024; first = origin; last = origin; totals = zeros }
+closedFull = markedClosed (openOf 1024 zeros)
 
 abbrev closedArea : Walk
-closedArea = record { is_open = false; count = 3; first = origin; last = origin; totals = area 1 }
+closedArea = markedClosed (openOf 3 (area 1))
 
 -- The totals of a sheet to which no area can be added: 26.
 abbrev most : Totals

@@ -1,7 +1,7 @@
 -- Document 01, "Walk and sheet": lists of calls on one walk, and lists of ends on one sheet.
 use Prim.Native.Nat.{ℕ}
 use mathlib.Core.Path.{_≡_}
-use mathlib.Core.Bool.{Bool, true, false, cond}
+use mathlib.Core.Bool.{Bool, false, cond}
 use mathlib.Core.List.{List, [], _∷_, _++_}
 use lib.Dec.{eqb}
 use lib.ListN.{length, getD}
@@ -10,7 +10,7 @@ use Rattle.outline.specs.declared.Totals.{Totals}
 use Rattle.outline.specs.declared.Walk.{Walk}
 use Rattle.outline.specs.declared.Sheet.{Sheet}
 use Rattle.outline.specs.EdgeSums.{openEdges, totalsOver}
-use Rattle.outline.specs.WalkCalls.{origin, beginCall, pointCall, endCall, abandonCall, impossibleSheet}
+use Rattle.outline.specs.WalkCalls.{origin, openWalk, beginCall, pointCall, endCall, abandonCall, impossibleSheet}
 
 -- ---- calls on a walk
 
@@ -74,7 +74,7 @@ lastOf [] = origin
 lastOf (a ∷ ps) = getD (a ∷ ps) (length ps) origin
 
 abbrev pub walkOf : List Position → Walk
-walkOf ps = record { is_open = true; count = length ps; first = firstOf ps; last = lastOf ps; totals = totalsOver (openEdges ps) }
+walkOf ps = openWalk (length ps) (firstOf ps) (lastOf ps) (totalsOver (openEdges ps))
 
 -- ---- ends on a sheet, each with whichever walk
 

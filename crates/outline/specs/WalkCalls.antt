@@ -17,28 +17,36 @@ use Rattle.outline.specs.MapCall.{totalLimits}
 abbrev pub origin : Position
 origin = record { x = pos 0; y = pos 0 }
 
+-- An open walk of n points: the first and the last of them, and the sums over the edges so far. Every open walk is made by it.
+abbrev pub openWalk : ℕ → Position → Position → Totals → Walk
+openWalk n first last t = record { is_open = true; count = n; first = first; last = last; totals = t }
+
 -- A walk just begun: open, and all its numbers zero.
 abbrev pub opened : Walk
-opened = record { is_open = true; count = 0; first = origin; last = origin; totals = zeros }
+opened = openWalk 0 origin origin zeros
 
 -- A walk that is over or not begun: not open, and all its numbers zero.
 abbrev pub closed : Walk
 closed = record { is_open = false; count = 0; first = origin; last = origin; totals = zeros }
 
+-- A sheet of n outlines, and the sums of their totals.
+abbrev pub sheetOf : ℕ → Totals → Sheet
+sheetOf n t = record { count = n; totals = t }
+
 -- Document 01's "sheet" is a running total over outlines; it starts from zero.
 abbrev pub newSheet : Sheet
-newSheet = record { count = 0; totals = zeros }
+newSheet = sheetOf 0 zeros
 
 -- What the edge from a to b adds to the six totals.
 abbrev pub edgeTotals : Position → Position → Totals
 edgeTotals a b = six (λ t. t a b)
 
--- The walk with one point more. From the second point on, the edge that leads to it is added.
+-- The open walk with one point more. From the second point on, the edge that leads to it is added.
 unfoldable pub extended : Walk → Position → Walk
 extended w p =
     cond (eqb (w .count) 0)
-    (record { is_open = w .is_open; count = 1; first = p; last = p; totals = w .totals })
-    (record { is_open = w .is_open; count = w .count + 1; first = w .first; last = p; totals = plus (w .totals) (edgeTotals (w .last) p) })
+    (openWalk 1 p p (w .totals))
+    (openWalk (w .count + 1) (w .first) p (plus (w .totals) (edgeTotals (w .last) p)))
 
 -- The walk's totals with the closing edge.
 abbrev pub closedTotals : Walk → Totals
@@ -50,7 +58,7 @@ addedTotals w = closedTotals w
 
 -- The sheet with one outline more.
 abbrev pub sheetWith : Sheet → Totals → Sheet
-sheetWith s t = record { count = s .count + 1; totals = plus (s .totals) t }
+sheetWith s t = sheetOf (s .count + 1) (plus (s .totals) t)
 
 -- ---- refusal 28
 

@@ -1,6 +1,6 @@
 -- A list that the call accepts, and one step of the copy and of the sum over a list of numbers, by index.
 use mathlib.Core.Path.{_≡_, refl, sym, ap}
-use mathlib.Core.Bool.{false, _||_}
+use mathlib.Core.Bool.{false}
 use mathlib.Core.List.{List, [], _∷_, _++_}
 use Prim.Native.Nat.{ℕ, zero, suc, _+_, _*_, _-_, _≤_, _<_}
 use native.Mathlib.Nat.{not-suc-le-zero, le-of-suc-le-suc}
@@ -56,10 +56,10 @@ no-edges [] = refl
 no-edges (p ∷ ps) = refl
 
 -- The point p after the first k, of which last is the last one.
-pub edges-next : (ps : List Position) (k : ℕ) {last p : Position} {sum edge r : Totals} → 0 < k → k < length ps → last ≡ getD ps (k - 1) origin → p ≡ getD ps k origin → sum ≡ totalsOver (openEdges (take k ps)) → edge ≡ edgeTotals last p → r ≡ plus sum edge → r ≡ totalsOver (openEdges (take (k + 1) ps))
-edges-next ps zero h l a b c d e = absurd (not-suc-le-zero h)
-edges-next ps (suc k) h l a b c d e = let back : suc k - 1 ≡ k = omega arith in rw (e, c, d, a, b, add-one, back) (sym (totals-next ps k origin l))
+pub edges-next : (ps : List Position) (k : ℕ) {last p : Position} {sum r : Totals} → 0 < k → k < length ps → last ≡ getD ps (k - 1) origin → p ≡ getD ps k origin → sum ≡ totalsOver (openEdges (take k ps)) → r ≡ plus sum (edgeTotals last p) → r ≡ totalsOver (openEdges (take (k + 1) ps))
+edges-next ps zero h l a b c e = absurd (not-suc-le-zero h)
+edges-next ps (suc k) h l a b c e = let back : suc k - 1 ≡ k = omega arith in rw (e, c, a, b, add-one, back) (sym (totals-next ps k origin l))
 
 -- All points are walked, and the closing edge comes last.
-pub edges-closed : (ps : List Position) (k : ℕ) {last first : Position} {sum edge r : Totals} → 0 < k → k ≡ length ps → last ≡ getD ps (k - 1) origin → first ≡ getD ps 0 origin → sum ≡ totalsOver (openEdges (take k ps)) → edge ≡ edgeTotals last first → r ≡ plus sum edge → r ≡ outlineTotals ps
-edges-closed ps k h l a b c d e = rw (e, c, d, a, b, l, take-length ps) (sym (totals-closing ps origin (omega arith)))
+pub edges-closed : (ps : List Position) (k : ℕ) {last first : Position} {sum r : Totals} → 0 < k → k ≡ length ps → last ≡ getD ps (k - 1) origin → first ≡ getD ps 0 origin → sum ≡ totalsOver (openEdges (take k ps)) → r ≡ plus sum (edgeTotals last first) → r ≡ outlineTotals ps
+edges-closed ps k h l a b c e = rw (e, c, a, b, l, take-length ps) (sym (totals-closing ps origin (omega arith)))

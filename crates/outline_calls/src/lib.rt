@@ -89,3 +89,14 @@ fn add(s: Totals, t: Totals) -> Totals
         yy12: s.yy12 + t.yy12,
     }
 }
+
+// The sums with the edge from a to b added.
+fn add_edge(sum: Totals, a: Position, b: Position) -> Totals
+    requires { ⌜ exceed totalLimits sum ≡ false ⌝ }
+    requires { ⌜ outside a ≡ false ⌝ }
+    requires { ⌜ outside b ≡ false ⌝ }
+    ensures { λ r. ⌜ r ≡ plus sum (edgeTotals a b) ⌝ }
+{
+    let edge = edge_between(a, b);
+    add(sum, edge)
+}

@@ -7,8 +7,7 @@ ghost use lib.ListN.{length, drop};
 ghost use Rattle.outline.specs.EdgeSums.{outlineTotals};
 ghost use Rattle.outline.specs.ListCall.{points as pointsOf, wrongLength, anyOutside, listCall};
 ghost use Rattle.outline_calls.specs.ListAnswer.{reading};
-use crate::add;
-use crate::edge_between;
+use crate::add_edge;
 use outline::Totals;
 use outline::ZEROS;
 use point_list::any_outside;
@@ -65,13 +64,11 @@ fn sum_edges(points: &[i32]) -> Totals
     let mut k = 1;
     while k < n {
         let p = position_at(points, k);
-        let e = edge_between(last, p);
-        sum = add(sum, e);
+        sum = add_edge(sum, last, p);
         last = p;
         k += 1;
     }
-    let e = edge_between(last, first);
-    add(sum, e)
+    add_edge(sum, last, first)
 }
 
 // The points are copied to a buffer of the call's own and summed from there.

@@ -6,7 +6,7 @@ ghost use Rattle.outline.specs.ListCall.{outside};
 ghost use Rattle.outline.specs.WalkCalls.{extended, closedTotals, impossibleWalk, impossibleSheet, pointCall, endCall};
 ghost use Rattle.outline_calls.specs.WalkAnswers.{pointNumber, pointReading, endNumber, endReading};
 use crate::add;
-use crate::edge_between;
+use crate::add_edge;
 use limits::outside_limits;
 use limits::position_outside;
 use outline::Position;
@@ -16,6 +16,7 @@ use outline::Walk;
 use walk_state::impossible_sheet;
 use walk_state::impossible_walk;
 use walk_state::new_walk;
+use walk_state::open_walk;
 
 pub enum PointAnswer {
     Accepted,
@@ -86,25 +87,12 @@ fn extended_walk(w: Walk, p: Position) -> Walk
 {
     let totals = w.totals;
     if w.count == 0 {
-        return Walk {
-            is_open: w.is_open,
-            count: 1,
-            first: p,
-            last: p,
-            totals,
-        };
+        return open_walk(1, p, p, totals);
     }
     let first = w.first;
     let last = w.last;
-    let edge = edge_between(last, p);
-    let sum = add(totals, edge);
-    Walk {
-        is_open: w.is_open,
-        count: w.count + 1,
-        first,
-        last: p,
-        totals: sum,
-    }
+    let sum = add_edge(totals, last, p);
+    open_walk(w.count + 1, first, p, sum)
 }
 
 pub fn point(w: Walk, x: i32, y: i32) -> PointReply
@@ -152,8 +140,7 @@ fn closed_totals(w: Walk) -> Totals
     let totals = w.totals;
     let last = w.last;
     let first = w.first;
-    let edge = edge_between(last, first);
-    add(totals, edge)
+    add_edge(totals, last, first)
 }
 
 fn refused_end(answer: EndAnswer, held: Walk, sheet: Sheet) -> EndReply

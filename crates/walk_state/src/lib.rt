@@ -2,12 +2,14 @@
 mod handed_in;
 
 ghost use mathlib.Core.Path.{_≡_};
-ghost use Rattle.outline.specs.WalkCalls.{closed, newSheet, beginCall, abandonCall};
+ghost use Rattle.outline.specs.WalkCalls.{openWalk, closed, newSheet, beginCall, abandonCall};
 ghost use Rattle.walk_state.specs.Answers.{beginNumber, beginReading, abandonNumber, abandonReading};
 pub use handed_in::impossible_sheet;
 pub use handed_in::impossible_walk;
 use outline::ORIGIN;
+use outline::Position;
 use outline::Sheet;
+use outline::Totals;
 use outline::Walk;
 use outline::ZEROS;
 
@@ -67,13 +69,18 @@ const CLOSED: Walk = Walk {
     totals: ZEROS,
 };
 
-const OPENED: Walk = Walk {
-    is_open: true,
-    count: 0,
-    first: ORIGIN,
-    last: ORIGIN,
-    totals: ZEROS,
-};
+// Every open walk is made here.
+pub fn open_walk(count: u32, first: Position, last: Position, totals: Totals) -> Walk
+    ensures { λ r. ⌜ r ≡ openWalk count first last totals ⌝ }
+{
+    Walk {
+        is_open: true,
+        count,
+        first,
+        last,
+        totals,
+    }
+}
 
 // A walk that was never opened.
 pub fn new_walk() -> Walk
@@ -106,9 +113,10 @@ pub fn begin(w: Walk) -> BeginReply
             walk: w,
         };
     }
+    let opened = open_walk(0, ORIGIN, ORIGIN, ZEROS);
     BeginReply {
         answer: BeginAnswer::Accepted,
-        walk: OPENED,
+        walk: opened,
     }
 }
 

@@ -12,7 +12,6 @@ use Rattle.outline.specs.ListCall.{points as pointsOf}
 use Rattle.outline.specs.WalkCalls.{origin}
 use Rattle.outline.proofs.IndexLaws.{length-points}
 use Rattle.outline.proofs.Limits.{OutlineList}
-use Rattle.outline_calls.proofs.Sizes.{edge-within}
 use Rattle.outline_calls.proofs.ListSteps.{outline-list, point-inside, sum-within, no-edges, edges-next, edges-closed}
 use Rattle.outline_calls.proofs.list.sum_edges.Statement.{statement}
 use Rattle.outline_calls.proofs.list.sum_edges.Tie as tie
@@ -48,19 +47,15 @@ loop-holds c =
 position-at-requires-2 : tie.Need-position-at-requires-2 Inv-loop μ-loop
 position-at-requires-2 c κs = omega arith
 
-edge-between-requires : tie.Need-edge-between-requires Inv-loop μ-loop
-edge-between-requires c κs =
-    let s = c .before .before .before .before in
+add-edge-requires : tie.Need-add-edge-requires Inv-loop μ-loop
+add-edge-requires c κs =
+    let looped = c .before .before in
+    let s = looped .before .before in
     let zs = s .args .points .now in
-    let at = c .before .before .loop in
-    (point-inside zs (at .k - 1) (accepted s) (omega (arith, length-points zs)) (at .inv .end), point-inside zs (at .k) (accepted s) (omega (arith, length-points zs)) (c .position-at2 .ensures))
-
-add-requires : tie.Need-add-requires Inv-loop μ-loop
-add-requires c κs =
-    let s = c .before .before .before .before .before in
-    let at = c .before .before .before .loop in
-    let ends = edge-between-requires (c .before) κs in
-    (sum-within (s .args .points .now) (at .k) (accepted s) (at .inv .most) (at .inv .is), rw (c .edge-between .ensures) (edge-within _ _ (ends .0) (ends .1)))
+    let at = looped .loop in
+    let o = accepted s in
+    let few = length-points zs in
+    (sum-within zs (at .k) o (at .inv .most) (at .inv .is), (point-inside zs (at .k - 1) o (omega arith) (at .inv .end), point-inside zs (at .k) o (omega arith) (c .position-at2 .ensures)))
 
 add-k : tie.Need-add-k Inv-loop μ-loop
 add-k c = omega arith
@@ -70,38 +65,34 @@ loop-less c = omega arith
 
 loop-again : tie.Need-loop-again Inv-loop μ-loop
 loop-again c =
-    let zs = c .before .before .before .before .before .before .args .points .now in
-    let at = c .before .before .before .before .loop in
+    let looped = c .before .before .before in
+    let zs = looped .before .before .args .points .now in
+    let at = looped .loop in
     let here : at .k + 1 - 1 ≡ at .k = omega arith in
-    let p = c .before .before .position-at2 in
+    let p = c .before .position-at2 in
     record {
       some = omega arith;
       most = omega (arith, length-points zs);
       end = rw here (p .ensures);
-      is = edges-next (pointsOf zs) (at .k) (at .inv .some) (omega (arith, length-points zs)) (at .inv .end) (p .ensures) (at .inv .is) (c .before .edge-between .ensures) (c .add .ensures);
+      is = edges-next (pointsOf zs) (at .k) (at .inv .some) (omega (arith, length-points zs)) (at .inv .end) (p .ensures) (at .inv .is) (c .add-edge .ensures);
     }
 
-edge-between-requires-2 : tie.Need-edge-between-requires-2 Inv-loop μ-loop
-edge-between-requires-2 c κs =
-    let s = c .before .before .before in
+add-edge-requires-2 : tie.Need-add-edge-requires-2 Inv-loop μ-loop
+add-edge-requires-2 c κs =
+    let looped = c .before in
+    let s = looped .before .before in
     let zs = s .args .points .now in
-    let at = c .before .loop in
-    let last = point-inside zs (at .k - 1) (accepted s) (omega (arith, length-points zs)) (at .inv .end) in
-    let first = point-inside zs 0 (accepted s) (omega (arith, length-points zs)) (c .before .before .position-at .ensures) in
-    search needs
-
-add-requires-2 : tie.Need-add-requires-2 Inv-loop μ-loop
-add-requires-2 c κs =
-    let s = c .before .before .before .before in
-    let at = c .before .before .loop in
-    let ends = edge-between-requires-2 (c .before) κs in
-    (sum-within (s .args .points .now) (at .k) (accepted s) (at .inv .most) (at .inv .is), rw (c .edge-between2 .ensures) (edge-within _ _ (ends .0) (ends .1)))
+    let at = looped .loop in
+    let o = accepted s in
+    let few = length-points zs in
+    (sum-within zs (at .k) o (at .inv .most) (at .inv .is), (point-inside zs (at .k - 1) o (omega arith) (at .inv .end), point-inside zs 0 o (omega arith) (looped .before .position-at .ensures)))
 
 returns : tie.Need-returns Inv-loop μ-loop
 returns c =
-    let zs = c .before .before .before .before .before .args .points .now in
-    let at = c .before .before .before .loop in
-    edges-closed (pointsOf zs) (at .k) (at .inv .some) (omega (arith, length-points zs)) (at .inv .end) (c .before .before .before .before .position-at .ensures) (at .inv .is) (c .before .edge-between2 .ensures) (c .add2 .ensures)
+    let looped = c .before .before in
+    let zs = looped .before .before .args .points .now in
+    let at = looped .loop in
+    edges-closed (pointsOf zs) (at .k) (at .inv .some) (omega (arith, length-points zs)) (at .inv .end) (looped .before .position-at .ensures) (at .inv .is) (c .add-edge2 .ensures)
 
 pub sum-edges-spec : {M : Type 1} → statement M
 sum-edges-spec =
@@ -112,11 +103,9 @@ sum-edges-spec =
     position-at-requires
     loop-holds
     position-at-requires-2
-    edge-between-requires
-    add-requires
+    add-edge-requires
     add-k
     loop-less
     loop-again
-    edge-between-requires-2
-    add-requires-2
+    add-edge-requires-2
     returns)
