@@ -1,6 +1,4 @@
 -- `outline_calls::add_edge` meets its contract: an edge within the limits can be added.
-use mathlib.Core.Path.{_≡_}
-use borrow.Author.Needs.{needs}
 use Rattle.outline_calls.proofs.Sizes.{edge-within}
 use Rattle.outline_calls.proofs.add_edge.Statement.{statement}
 use Rattle.outline_calls.proofs.add_edge.Tie as tie

@@ -43,15 +43,25 @@ module _ (s : tie.Start) where
   called : {r z : ℤ} → mag r < 2 ^ 63 → r ≡ z → (k : Code ends z) → T (steps limits k) → toZ w64 (ofZ w64 r) ≡ plain k
   called ok e k t = toZ-ofZ (record { sfits = ok }) ∙ e ∙ result k t
 
--- The coordinates are in locals: from here on nothing more is bound but what the calls give.
-abbrev entry : tie.After-struct-told4 → tie.Start
-entry c = c .before .before .before .before .before .before .before .before
+-- The code reads the coordinates into locals, two steps each: here each is read, and the way back to the start.
+abbrev at-x : tie.After-struct-told → tie.Start
+at-x c = c .before .before
+
+abbrev at-y : tie.After-struct-told2 → tie.Start
+at-y c = at-x (c .before .before)
+
+abbrev at-p : tie.After-struct-told3 → tie.Start
+at-p c = at-y (c .before .before)
+
+-- From here on nothing more is bound but what the calls give.
+abbrev at-q : tie.After-struct-told4 → tie.Start
+at-q c = at-p (c .before .before)
 
 first-term-requires : tie.Need-first-term-requires
-first-term-requires c κs = let s = entry c in (within s 2000 (search code depth 40) tt, (within s 2000 (search code depth 40) tt, within s 8000000 (search code depth 40) tt))
+first-term-requires c κs = let s = at-q c in (within s 2000 (search code depth 40) tt, (within s 2000 (search code depth 40) tt, within s 8000000 (search code depth 40) tt))
 
 first-term-requires-2 : tie.Need-first-term-requires-2
-first-term-requires-2 c κs = let s = entry (c .before) in (within s 2000 (search code depth 40) tt, (within s 2000 (search code depth 40) tt, within s 8000000 (search code depth 40) tt))
+first-term-requires-2 c κs = let s = at-q (c .before) in (within s 2000 (search code depth 40) tt, (within s 2000 (search code depth 40) tt, within s 8000000 (search code depth 40) tt))
 
 second-term-requires : tie.Need-second-term-requires
 second-term-requires c κs = first-term-requires (c .before .before) κs
@@ -67,30 +77,30 @@ second-term-requires-2 c κs = first-term-requires-2 (c .before .before .before)
 
 returns : tie.Need-returns
 returns c =
-    let c4 = c .before in
-    let c3 = c4 .before in
-    let c2 = c3 .before in
-    let c1 = c2 .before in
-    let s = entry (c1 .before) in
+    let at-xy24 = c .before in
+    let at-xx12 = at-xy24 .before in
+    let at-y6 = at-xx12 .before in
+    let at-x6 = at-y6 .before in
+    let s = at-q (at-x6 .before) in
     totals-equal
     (result s (search code depth 40) tt)
-    (called s (c1 .first-term .ok) (c1 .first-term .ensures) (search code depth 40) tt)
-    (called s (c2 .first-term2 .ok) (c2 .first-term2 .ensures) (search code depth 40) tt)
-    (called s (c3 .second-term .ok) (c3 .second-term .ensures) (search code depth 40) tt)
-    (called s (c4 .mixed-term .ok) (c4 .mixed-term .ensures) (search code depth 60 fits 20000) tt)
+    (called s (at-x6 .first-term .ok) (at-x6 .first-term .ensures) (search code depth 40) tt)
+    (called s (at-y6 .first-term2 .ok) (at-y6 .first-term2 .ensures) (search code depth 40) tt)
+    (called s (at-xx12 .second-term .ok) (at-xx12 .second-term .ensures) (search code depth 40) tt)
+    (called s (at-xy24 .mixed-term .ok) (at-xy24 .mixed-term .ensures) (search code depth 60 fits 20000) tt)
     (called s (c .second-term2 .ok) (c .second-term2 .ensures) (search code depth 40) tt)
 
 pub edge-between-spec : {M : Type 1} → statement M
 edge-between-spec =
     tie.close
     (tie.spec
-    (λ c. step (c .before .before) (search code depth 40) tt)
-    (λ c. step (c .before .before .before .before) (search code depth 40) tt)
-    (λ c. step (c .before .before .before .before .before .before) (search code depth 40) tt)
-    (λ c. step (entry c) (search code depth 40) tt)
-    (λ c. step (entry c) (search code depth 40) tt)
-    (λ c. step (entry c) (search code depth 40) tt)
-    (λ c. step (entry c) (search code depth 40) tt)
+    (λ c. step (at-x c) (search code depth 40) tt)
+    (λ c. step (at-y c) (search code depth 40) tt)
+    (λ c. step (at-p c) (search code depth 40) tt)
+    (λ c. step (at-q c) (search code depth 40) tt)
+    (λ c. step (at-q c) (search code depth 40) tt)
+    (λ c. step (at-q c) (search code depth 40) tt)
+    (λ c. step (at-q c) (search code depth 40) tt)
     first-term-requires
     first-term-requires-2
     second-term-requires

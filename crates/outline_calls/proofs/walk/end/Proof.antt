@@ -41,22 +41,35 @@ refused-end-requires-3 c κs = search needs
 
 returns-3 : tie.Need-returns-3
 unfolding endCall
-returns-3 c = rw (c .refused-end3 .ensures, not-28 (c .before .before .before .before .before), c .before .before .before .if2 .left, lt-ltb (c .before .before .before .before .before .before .before .before .args .w .count) 3 (omega (arith, c .before .if3 .taken)))
+returns-3 c =
+    let few = c .before in
+    let is-open = few .before .before in
+    let possible = is-open .before .before in
+    let s = possible .before .before .before in
+    rw (c .refused-end3 .ensures, not-28 possible, is-open .if2 .left, lt-ltb (s .args .w .count) 3 (omega (arith, few .if3 .taken)))
 
 refused-end-requires-4 : tie.Need-refused-end-requires-4
 refused-end-requires-4 c κs = search needs
 
 returns-4 : tie.Need-returns-4
 unfolding endCall
-returns-4 c = rw (c .refused-end4 .ensures, not-28 (c .before .before .before .before .before .before .before), c .before .before .before .before .before .if2 .left, le-ltb _ _ (c .before .before .before .if3 .left), le-leb 64 (c .before .before .before .before .before .before .before .before .before .before .args .s .count) (omega (arith, c .before .if4 .taken)))
+returns-4 c =
+    let full = c .before in
+    let enough = full .before .before in
+    let is-open = enough .before .before in
+    let possible = is-open .before .before in
+    let s = possible .before .before .before in
+    rw (c .refused-end4 .ensures, not-28 possible, is-open .if2 .left, le-ltb _ _ (enough .if3 .left), le-leb 64 (s .args .s .count) (omega (arith, full .if4 .taken)))
 
 add-to-sheet-requires : tie.Need-add-to-sheet-requires
 add-to-sheet-requires c κs =
-    let e = c .before .before .before .before .before .before in
-    let s = e .before .before .before in
+    let enough = c .before .before in
+    let is-open = enough .before .before in
+    let possible = is-open .before .before in
+    let s = possible .before .before .before in
     let walk = impossibleWalk (s .args .w) in
     let sheet = impossibleSheet (s .args .s) in
-    (or-left walk sheet (not-28 e), (or-right walk sheet (not-28 e), (not-false (s .args .w .is_open) (c .before .before .before .before .if2 .left), (c .before .before .if3 .left, c .if4 .left))))
+    (or-left walk sheet (not-28 possible), (or-right walk sheet (not-28 possible), (not-false (s .args .w .is_open) (is-open .if2 .left), (enough .if3 .left, c .if4 .left))))
 
 returns-5 : tie.Need-returns-5
 returns-5 c = c .add-to-sheet .ensures

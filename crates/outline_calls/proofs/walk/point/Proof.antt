@@ -42,21 +42,40 @@ position-outside-requires c κs = search needs
 
 returns-3 : tie.Need-returns-3
 unfolding pointCall
-returns-3 c = plain (c .before .before .before .before .before .before) (rw (not-28 (c .before .before .before .before), c .before .before .if2 .left, tells (c .before .position-outside .ensures) (c .if3 .taken)))
+returns-3 c =
+    let is-open = c .before .before in
+    let possible = is-open .before .before in
+    plain (possible .before .before) (rw (not-28 possible, is-open .if2 .left, tells (c .before .position-outside .ensures) (c .if3 .taken)))
 
 not-1 : (c : tie.Else3) → outside (read (c .before .before .before .before .before .before)) ≡ false
 not-1 c = tells (c .before .position-outside .ensures) (c .if3 .left)
 
 returns-4 : tie.Need-returns-4
 unfolding pointCall
-returns-4 c = plain (c .before .before .before .before .before .before .before .before) (rw (not-28 (c .before .before .before .before .before .before), c .before .before .before .before .if2 .left, not-1 (c .before .before), le-leb 1024 (c .before .before .before .before .before .before .before .before .args .w .count) (omega (arith, c .if4 .taken))))
+returns-4 c =
+    let inside = c .before .before in
+    let is-open = inside .before .before in
+    let possible = is-open .before .before in
+    let s = possible .before .before in
+    plain s (rw (not-28 possible, is-open .if2 .left, not-1 inside, le-leb 1024 (s .args .w .count) (omega (arith, c .if4 .taken))))
 
 extended-walk-requires : tie.Need-extended-walk-requires
-extended-walk-requires c κs = (not-28 (c .before .before .before .before .before .before), (not-false (c .before .before .before .before .before .before .before .before .args .w .is_open) (c .before .before .before .before .if2 .left), (c .if4 .left, not-1 (c .before .before))))
+extended-walk-requires c κs =
+    let inside = c .before .before in
+    let is-open = inside .before .before in
+    let possible = is-open .before .before in
+    let s = possible .before .before in
+    (not-28 possible, (not-false (s .args .w .is_open) (is-open .if2 .left), (c .if4 .left, not-1 inside)))
 
 returns-5 : tie.Need-returns-5
 unfolding pointCall
-returns-5 c = plain (c .before .before .before .before .before .before .before .before .before) (rw (not-28 (c .before .before .before .before .before .before .before), c .before .before .before .before .before .if2 .left, not-1 (c .before .before .before), lt-leb 1024 (c .before .before .before .before .before .before .before .before .before .args .w .count) (omega (arith, c .before .if4 .left)), c .extended-walk .ensures))
+returns-5 c =
+    let not-full = c .before in
+    let inside = not-full .before .before in
+    let is-open = inside .before .before in
+    let possible = is-open .before .before in
+    let s = possible .before .before in
+    plain s (rw (not-28 possible, is-open .if2 .left, not-1 inside, lt-leb 1024 (s .args .w .count) (omega (arith, not-full .if4 .left)), c .extended-walk .ensures))
 
 pub point-spec : {M : Type 1} → statement M
 point-spec =
