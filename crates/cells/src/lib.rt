@@ -134,18 +134,10 @@ fn no_runs() -> Scan
         first: 0,
         length: 0,
     };
-    let sums = centroid::CellSums {
-        count: 0,
-        x: 0,
-        y: 0,
-        xx: 0,
-        xy: 0,
-        yy: 0,
-    };
     Scan {
         count: 0,
         last,
-        answer: RegionAnswer::Sums(sums),
+        answer: RegionAnswer::Sums(centroid::ZERO_SUMS),
     }
 }
 

@@ -14,6 +14,16 @@ pub struct CellSums {
     pub yy: i64,
 }
 
+// The sums over no cell.
+pub const ZERO_SUMS: CellSums = CellSums {
+    count: 0,
+    x: 0,
+    y: 0,
+    xx: 0,
+    xy: 0,
+    yy: 0,
+};
+
 // The centre's x and y; or a total or sum is outside its limits (refusal 11), or the area is 0 (refusal 27).
 pub enum CentroidAnswer {
     At(i64, i64),

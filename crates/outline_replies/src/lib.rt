@@ -1,0 +1,91 @@
+// The calls on outlines and on their totals, each answered as a number and a buffer: 0 or the number of a refusal, with zeros for totals or centre.
+ghost use mathlib.Core.Path.{_≡_};
+ghost use mathlib.Core.List.{[], _∷_};
+ghost use Rattle.outline.specs.EdgeSums.{zeros};
+ghost use Rattle.outline.specs.ListCall.{listCall};
+ghost use Rattle.outline.specs.MapCall.{mapCall};
+ghost use Rattle.outline_calls.specs.ListAnswer.{reading as listReading};
+ghost use Rattle.affine.specs.Answer.{reading as mapReading};
+ghost use Rattle.centroid.specs.Centroid.{outlineCentroidCall};
+ghost use Rattle.centroid.specs.Answers.{reading as centreReading};
+ghost use Rattle.outline_replies.specs.OutlineReply.{totalsReply, centreReply};
+use affine::MapAnswer;
+use centroid::CentroidAnswer;
+use outline::AffineMap;
+use outline::Totals;
+use outline::ZEROS;
+use outline_calls::OutlineAnswer;
+use replies::put_values;
+
+// The totals of a refusal.
+fn no_totals() -> Totals
+    ensures { λ r. ⌜ r ≡ zeros ⌝ }
+{
+    ZEROS
+}
+
+// The totals that an answer of the list call tells.
+pub fn list_totals(answer: OutlineAnswer) -> Totals
+    ensures { λ r. ⌜ r ≡ listReading answer .totals ⌝ }
+{
+    match answer {
+        OutlineAnswer::Accepted(totals) => totals,
+        OutlineAnswer::WrongLength => no_totals(),
+        OutlineAnswer::OutsideLimits => no_totals(),
+    }
+}
+
+// The totals that an answer of the map call tells.
+pub fn map_totals(answer: MapAnswer) -> Totals
+    ensures { λ r. ⌜ r ≡ mapReading answer .totals ⌝ }
+{
+    match answer {
+        MapAnswer::Mapped(totals) => totals,
+        MapAnswer::MapOutsideLimits => no_totals(),
+        MapAnswer::TotalsOutsideBounds => no_totals(),
+        MapAnswer::ResultOutsideLimits => no_totals(),
+    }
+}
+
+// The centre's x and y that an answer tells.
+fn centre_values(answer: CentroidAnswer) -> [i64; 2]
+    ensures { λ r. ⌜ r ≡ centreReading answer .x ∷ centreReading answer .y ∷ [] ⌝ }
+{
+    match answer {
+        CentroidAnswer::At(x, y) => [x, y],
+        CentroidAnswer::OutsideLimits => [0, 0],
+        CentroidAnswer::NoArea => [0, 0],
+    }
+}
+
+fn put_totals(number: u32, t: Totals, out: &mut [i64]) -> u32
+    ensures { λ r. ⌜ record { number = r; buffer = now (out .exit) } ≡ totalsReply (record { number = number; totals = t }) (now (out .entry)) ⌝ }
+{
+    let values = [t.a2, t.x6, t.y6, t.xx12, t.xy24, t.yy12];
+    put_values(&values, number, out)
+}
+
+// The call on a whole outline, x and y in turn: 0, 1 or 2, and the six totals.
+pub fn outline_totals_reply(points: &[i32], out: &mut [i64]) -> u32
+    ensures { λ r. ⌜ record { number = r; buffer = now (out .exit) } ≡ totalsReply (listCall (now (points .entry))) (now (out .entry)) ⌝ }
+{
+    let answer = outline_calls::outline_totals(points);
+    put_totals(answer.number(), list_totals(answer), out)
+}
+
+// The map call on six totals: 0, 3, 4 or 5, and the six mapped totals.
+pub fn map_totals_reply(m: AffineMap, t: Totals, out: &mut [i64]) -> u32
+    ensures { λ r. ⌜ record { number = r; buffer = now (out .exit) } ≡ totalsReply (mapCall m t) (now (out .entry)) ⌝ }
+{
+    let answer = affine::map_totals(m, t);
+    put_totals(answer.number(), map_totals(answer), out)
+}
+
+// The centre of six outline totals: 0, 11 or 27, and the centre's x and y.
+pub fn outline_centroid_reply(t: Totals, out: &mut [i64]) -> u32
+    ensures { λ r. ⌜ record { number = r; buffer = now (out .exit) } ≡ centreReply (outlineCentroidCall t) (now (out .entry)) ⌝ }
+{
+    let answer = centroid::outline_centroid(t);
+    let values = centre_values(answer);
+    put_values(&values, answer.number(), out)
+}
