@@ -1,6 +1,6 @@
--- `exports::mavrihkel_region_sums` meets its contract: a walk of its MIR, by hand, since it is lent a list of structs. Both borrows are passed on for good: the runs to `region_sums`, the buffer to `put_region`.
-use mathlib.Core.Path.{_≡_, refl}
-use Prim.Native.Nat.{ℕ, _≤_}
+-- `exports::mavrihkel_region_sums` meets its contract: a walk of its MIR, by hand, since it is lent a list of structs. Both borrows are passed on for good: the runs to `region_sums`, the buffer to `region_reply`.
+use mathlib.Core.Path.{_≡_, refl, ap, _∙_}
+use Prim.Native.Nat.{ℕ}
 use mathlib.Core.List.{List, [], _∷_}
 use lib.IntN.{ℤ}
 use lib.ListN.{length}
@@ -46,12 +46,13 @@ use Rattle.cells.proofs.region_sums as region-sums
 use Rattle.cells.proofs.region_sums.Symbol as region-sums-def
 use Rattle.cells.proofs.region_sums.Symbol.{name as #cells·region-sums}
 use Rattle.cells.proofs.region_sums.Met as region-sums-thm
-use Rattle.exports.specs.Reply.{Reply, regionReply, RegionReplies}
-use Rattle.exports.proofs.RegionLaws.{index-within}
-use Rattle.exports.proofs.put_region as put-region
-use Rattle.exports.proofs.put_region.Symbol as put-region-def
-use Rattle.exports.proofs.put_region.Symbol.{name as #exports·put-region}
-use Rattle.exports.proofs.put_region.Met as put-region-thm
+use Rattle.replies.specs.Reply.{Reply}
+use Rattle.region_replies.specs.RegionReply.{regionReply, RegionReplies, indexCapped}
+use Rattle.region_replies.proofs.IndexLaw.{index-told}
+use Rattle.region_replies.proofs.region_reply as region-reply
+use Rattle.region_replies.proofs.region_reply.Symbol as region-reply-def
+use Rattle.region_replies.proofs.region_reply.Symbol.{name as #region-replies·region-reply}
+use Rattle.region_replies.proofs.region_reply.Met as region-reply-thm
 use Rattle.exports.proofs.mavrihkel_region_sums.Key.{name as #exports·mavrihkel-region-sums}
 use Rattle.exports.proofs.mavrihkel_region_sums as region-call
 use Rattle.exports.proofs.mavrihkel_region_sums.Statement as stated
@@ -66,7 +67,7 @@ module _ {M : Type 1} (𝓤 : URA M) (H : Heap 𝓤) (A : Atoms 𝓤) (mem : Mem
   Sums = tripleOf 𝓤 H A region-sums.signature (region-sums.spec 𝓤 H A mem run)
 
   abbrev Put : Contract 𝓤
-  Put = tripleOf 𝓤 H A put-region.signature (put-region.spec 𝓤 H A mem run)
+  Put = tripleOf 𝓤 H A region-reply.signature (region-reply.spec 𝓤 H A mem run)
 
 module _ {M : Type 1} (𝓤 : URA M) (H : Heap 𝓤) (A : Atoms 𝓤) (W : Given 𝓤 H A) (mem : Memory → SProp 𝓤) (run : Routine → Fun 𝓤) (κ κ′ : Lft) (q q′ : Share)
     (b o : ℕ) (γ : GName) (ys : List Run) (b′ o′ : ℕ) (γ′ : GName) (zs : List ℤ) (room : Room T.the-row (length ys)) (room′ : Room i64 (length zs)) where
@@ -107,21 +108,21 @@ module _ {M : Type 1} (𝓤 : URA M) (H : Heap 𝓤) (A : Atoms 𝓤) (W : Given
   told-sums : (r : RegionAnswer) → ent 𝓤 (ensured 𝓤 H A region-sums.ended (region-sums.clauses 𝓤 H A mem run) (κ, tt) (x, tt) tt r) (fact 𝓤 (Answers ys r))
   told-sums r = exE 𝓤 _ (λ ws. snd∗ 𝓤 (sem 𝓤 H A (lasts region-sums.ended (κ, tt) (x, tt) ws)) (fact 𝓤 (Answers ys r)))
 
-  -- what `put_region` is passed: the buffer and the answer
+  -- what `region_reply` is passed: the answer and the buffer
   abbrev Passed : RegionAnswer → Val → Fml
-  Passed r u = fsep (MutSlice (named 1) κ′ i64 .own x′ (v′ ∷ [])) (R.the-row .own r (u ∷ []))
+  Passed r u = fsep (R.the-row .own r (u ∷ [])) (MutSlice (named 1) κ′ i64 .own x′ (v′ ∷ []))
 
   abbrev to-put : RegionAnswer → Val → Put 𝓤 H A mem run .Ghost
-  to-put r u = (((κ′, tt), (q′, tt), tt, (x′, (r, tt)), (v′ ∷ [], (u ∷ [], tt))), tt)
+  to-put r u = (((κ′, tt), (q′, tt), tt, (r, (x′, tt)), (u ∷ [], (v′ ∷ [], tt))), tt)
 
-  goes-put : (r : RegionAnswer) (u : Val) → reading r .index ≤ 4096 → ent 𝓤 (sep 𝓤 (sep 𝓤 (A .lft κ′ q′) (sem 𝓤 H A ftrue)) (sem 𝓤 H A (Passed r u))) (Put 𝓤 H A mem run .pre (to-put r u))
-  goes-put r u within =
-      qed W (Token κ′ q′ ∷ ‵ (Passed r u) ∷ []) ∵ says ! within $ frame ! $
-      fsplit ! $ nothing ! $ move ! (2 ∷ 0 ∷ []) $ fjoin ! $ move ! (1 ∷ 0 ∷ []) $ fjoin ! $ done !
+  goes-put : (r : RegionAnswer) (u : Val) → ent 𝓤 (sep 𝓤 (sep 𝓤 (A .lft κ′ q′) (sem 𝓤 H A ftrue)) (sem 𝓤 H A (Passed r u))) (Put 𝓤 H A mem run .pre (to-put r u))
+  goes-put r u =
+      qed W (Token κ′ q′ ∷ ‵ (Passed r u) ∷ []) ∵ move ! (1 ∷ []) $
+      fsplit ! $ nothing ! $ move ! (2 ∷ 0 ∷ []) $ fjoin ! $ move ! (1 ∷ 0 ∷ []) $ fjoin ! $ move ! (1 ∷ 0 ∷ []) $ join ! $ frame ! $ done !
 
   -- the call's reply, by the buffer's last list
   abbrev Told : RegionAnswer → ℕ → List ℤ → Type 0
-  Told r number last = _≡_ {A = Reply} (record { number = number; buffer = last }) (regionReply (reading r) zs)
+  Told r number last = _≡_ {A = Reply} (record { number = number; buffer = last }) (regionReply (indexCapped (reading r)) zs)
 
   exits : (number : ℕ) (w : Val) (last : List ℤ) → RegionReplies ys zs (record { number = number; buffer = last }) → length last ≡ length zs
       → ent 𝓤 (⋆ 𝓤 H A (Token κ q ∷ Token κ′ q′ ∷ ‵ (finally i64 γ′ last) ∷ ‵ (u32 .own number (w ∷ [])) ∷ [])) (Post w)
@@ -131,7 +132,7 @@ module _ {M : Type 1} (𝓤 : URA M) (H : Heap 𝓤) (A : Atoms 𝓤) (W : Given
       split ! $ move ! (0 ∷ 2 ∷ []) $ join ! $ frame ! $
       nothing ! $ move ! (2 ∷ 0 ∷ []) $ fjoin ! $ move ! (1 ∷ 0 ∷ []) $ fjoin ! $ frame ! $ done !
 
-  module _ (C : Calls 𝓤 H) (Λ : Loops 𝓤 H) (fm : FmC 𝓤 H (W .laws) C) (known-sums : Triple 𝓤 (C #cells·region-sums) (Sums 𝓤 H A mem run)) (known-put : Triple 𝓤 (C #exports·put-region) (Put 𝓤 H A mem run)) where
+  module _ (C : Calls 𝓤 H) (Λ : Loops 𝓤 H) (fm : FmC 𝓤 H (W .laws) C) (known-sums : Triple 𝓤 (C #cells·region-sums) (Sums 𝓤 H A mem run)) (known-put : Triple 𝓤 (C #region-replies·region-reply) (Put 𝓤 H A mem run)) where
     walk : ent 𝓤 (onEntry 𝓤 H A region-call.signature (κ, (κ′, tt)) (q, (q′, tt)) a vals) (WpFn 𝓤 H C Λ code.function (v ∷ v′ ∷ []) Post)
     walk =
         qed W ((‵ (flft κ q) ⊛ ‵ (flft κ′ q′) ⊛ ‵ ftrue) ∷ ‵ (owns (ShrSlice (named 0) κ T.the-row ∷ MutSlice (named 1) κ′ i64 ∷ []) a vals) ∷ []) ∵ enter ! C Λ code.function (v ∷ v′ ∷ []) _ $
@@ -148,21 +149,21 @@ module _ {M : Type 1} (𝓤 : URA M) (H : Heap 𝓤) (A : Atoms 𝓤) (W : Given
         land ! (from ! (stop !)) (init ! 8 refl (EL.lawful R.the-type R′.the-laws 𝓤 H A W tt .typed r _ is .0)) $
         assigns ! (addr ! (from ! (fld ! refl (hop ! (look-in ! 10 (sub ! 0 refl (whole !))) (stop !))))) (from ! (stop !)) (init ! 6 refl (tt, tt)) $
         assigns ! (agg ! (and-then ! (load ! (from ! (stop !)) (look ! 6 refl)) (and-then ! (load ! (from ! (fld ! refl (stop !))) (look-in ! 10 (sub ! 1 refl (whole !)))) (no-more !)))) (from ! (stop !)) (init ! 4 refl (tt, (tt, (record { fits = room′ .0 }, tt)))) $
-        move ! (3 ∷ []) $ fsplit ! $ move ! (0 ∷ 2 ∷ []) $ fjoin ! $ move ! (3 ∷ 0 ∷ []) $ use2 W (raw (Put 𝓤 H A mem run .pre (to-put r u))) (goes-put r u (index-within ys r h)) $
+        move ! (3 ∷ []) $ fsplit ! $ move ! (2 ∷ 0 ∷ []) $ fjoin ! $ move ! (3 ∷ 0 ∷ []) $ use2 W (raw (Put 𝓤 H A mem run .pre (to-put r u))) (goes-put r u) $
         -- [what the call asks; true; runs' token; _5; …; _4; …; _3; …; _2; …; _1; …; room for _0; …]
-        calls-at ! fm (Put 𝓤 H A mem run) known-put (to-put r u) (and-then ! (load ! (from ! (stop !)) (look ! 3 refl)) (and-then ! (load ! (from ! (stop !)) (look ! 7 refl)) (no-more !))) (λ w.
-        use1 W (later (some (λ (number : ℕ). (Token κ′ q′ ⊛ ‵ (u32 .own number (w ∷ []))) ⊛ raw (ensured 𝓤 H A put-region.ended (put-region.clauses 𝓤 H A mem run) (κ′, tt) (x′, (r, tt)) tt number)))) (id⊢ 𝓤 _) $ await ! tt $ pick ! (λ number.
-        -- what `put_region` ensures, at some last list
-        split ! $ move ! (1 ∷ []) $ use1 W (some (λ (last : List ℤ × (Unit {0} × Unit {0})). ‵ (lasts put-region.ended (κ′, tt) (x′, (r, tt)) last) ⊛ raw (fact 𝓤 (Told r number (last .0))))) (id⊢ 𝓤 _) $ pick ! (λ last.
-        split ! $ move ! (1 ∷ []) $ heard ! (Told r number (last .0)) (λ e. fsplit ! $ fsplit ! $ move ! (1 ∷ []) $ feqL ! (λ l.
+        calls-at ! fm (Put 𝓤 H A mem run) known-put (to-put r u) (and-then ! (load ! (from ! (stop !)) (look ! 7 refl)) (and-then ! (load ! (from ! (stop !)) (look ! 3 refl)) (no-more !))) (λ w.
+        use1 W (later (some (λ (number : ℕ). (Token κ′ q′ ⊛ ‵ (u32 .own number (w ∷ []))) ⊛ raw (ensured 𝓤 H A region-reply.ended (region-reply.clauses 𝓤 H A mem run) (κ′, tt) (r, (x′, tt)) tt number)))) (id⊢ 𝓤 _) $ await ! tt $ pick ! (λ number.
+        -- what `region_reply` ensures, at some last list
+        split ! $ move ! (1 ∷ []) $ use1 W (some (λ (last : Unit {0} × (List ℤ × Unit {0})). ‵ (lasts region-reply.ended (κ′, tt) (r, (x′, tt)) last) ⊛ raw (fact 𝓤 (Told r number (last .1 .0))))) (id⊢ 𝓤 _) $ pick ! (λ last.
+        split ! $ move ! (1 ∷ []) $ heard ! (Told r number (last .1 .0)) (λ e. fsplit ! $ move ! (1 ∷ []) $ fsplit ! $ move ! (1 ∷ 2 ∷ []) $ fjoin ! $ move ! (1 ∷ []) $ fsplit ! $ move ! (1 ∷ []) $ feqL ! (λ l.
         -- [the last list; …; the token and the result; true; runs' token; _5; …]
         move ! (2 ∷ []) $ split ! $ move ! (1 ∷ []) $ peeks ! u32 (Is u32) (shows 𝓤 H A u32) number (w ∷ []) (λ is′.
         land ! (from ! (stop !)) (init ! 16 refl (uint-lawful 𝓤 H A W w32 .typed number _ is′ .0)) $
         returns ! (look ! 16 refl) $ forget ! 6 refl $ forget ! 8 refl $ forget ! 10 refl $ forget ! 12 refl $ forget ! 14 refl $ forget ! 16 refl $
         move ! (16 ∷ 17 ∷ []) $ free1 ! $ move ! (14 ∷ 15 ∷ []) $ free1 ! $ move ! (12 ∷ 13 ∷ []) $ free1 ! $ move ! (10 ∷ 11 ∷ []) $ free1 ! $ move ! (8 ∷ 9 ∷ []) $ free1 ! $ move ! (6 ∷ 7 ∷ []) $ free1 ! $ free0 ! $
-        keep ! (5 ∷ 1 ∷ 2 ∷ 0 ∷ []) $ by ! (exits number w (last .0) (record { answer = r; allowed = h; told = e }) l)))))))))))))))))
+        keep ! (5 ∷ 1 ∷ 2 ∷ 0 ∷ []) $ by ! (exits number w (last .1 .0) (record { answer = r; allowed = h; told = e ∙ ap (λ o. regionReply o zs) (index-told ys r h) }) l)))))))))))))))))
 
-module _ {M : Type 1} (𝓤 : URA M) (H : Heap 𝓤) (A : Atoms 𝓤) (W : Given 𝓤 H A) (mem : Memory → SProp 𝓤) (run : Routine → Fun 𝓤) (𝓣 : Tables 𝓤 H) (known-sums : Triple 𝓤 (𝓣 .C #cells·region-sums) (Sums 𝓤 H A mem run)) (known-put : Triple 𝓤 (𝓣 .C #exports·put-region) (Put 𝓤 H A mem run)) where
+module _ {M : Type 1} (𝓤 : URA M) (H : Heap 𝓤) (A : Atoms 𝓤) (W : Given 𝓤 H A) (mem : Memory → SProp 𝓤) (run : Routine → Fun 𝓤) (𝓣 : Tables 𝓤 H) (known-sums : Triple 𝓤 (𝓣 .C #cells·region-sums) (Sums 𝓤 H A mem run)) (known-put : Triple 𝓤 (𝓣 .C #region-replies·region-reply) (Put 𝓤 H A mem run)) where
   region-call-walks : Walks 𝓤 H A region-call.ended stayed (WpFn 𝓤 H (𝓣 .C) (𝓣 .Λ) code.function) (region-call.clauses 𝓤 H A mem run)
   region-call-walks = walked 𝓤 H A region-call.ended stayed (region-call.clauses 𝓤 H A mem run) (WpFn 𝓤 H (𝓣 .C) (𝓣 .Λ) code.function)
       (λ κs. (slice-vals, (slice-vals, tt))) (λ κs. (shr-slice-tells (named 0) (κs .0) T.the-row, (mut-slice-tells (named 1) (κs .1 .0) i64, tt)))
@@ -182,4 +183,4 @@ mavrihkel-region-sums-spec 𝓤 H 𝓜 𝓖 𝓡 =
     (tables 𝓤 H 𝓜 𝓡 code.env .C) (tables 𝓤 H 𝓜 𝓡 code.env .Λ) #exports·mavrihkel-region-sums code.function (code.unfolded 𝓤 H 𝓜 𝓡)
     (region-call-meets 𝓤 H (𝓖 .A) (givenOf 𝓤 H 𝓜 𝓖) (𝓜 .mem) (𝓡 .run) (tablesOf 𝓤 H 𝓜 (tables 𝓤 H 𝓜 𝓡 code.env))
     (cited 𝓤 H (Sums 𝓤 H (𝓖 .A) (𝓜 .mem) (𝓡 .run)) 𝓜 𝓡 code.env #cells·region-sums region-sums-def.routine code.calls-cells·region-sums (region-sums-thm.met 𝓤 H 𝓜 𝓖 𝓡))
-    (cited 𝓤 H (Put 𝓤 H (𝓖 .A) (𝓜 .mem) (𝓡 .run)) 𝓜 𝓡 code.env #exports·put-region put-region-def.routine code.calls-exports·put-region (put-region-thm.met 𝓤 H 𝓜 𝓖 𝓡)))
+    (cited 𝓤 H (Put 𝓤 H (𝓖 .A) (𝓜 .mem) (𝓡 .run)) 𝓜 𝓡 code.env #region-replies·region-reply region-reply-def.routine code.calls-region-replies·region-reply (region-reply-thm.met 𝓤 H 𝓜 𝓖 𝓡)))

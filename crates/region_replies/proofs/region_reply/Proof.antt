@@ -1,49 +1,71 @@
+-- `region_replies::region_reply` meets its contract: the number, the sums and the index told are those of the answer.
+use mathlib.Core.Path.{_≡_, ap, _∙_}
+use mathlib.Core.List.{List}
+use Prim.Native.Nat.{min}
 use borrow.Author.Needs.{needs}
+use lib.IntN.{ℤ, pos}
+use mir.Syntax.{w64}
+use mir.Val.{toZ}
+use mir.ValLaws.{toZ-ofZ}
+use Rattle.cells.specs.RegionCall.{RegionOutcome}
+use Rattle.region_replies.specs.RegionReply.{regionReply}
 use Rattle.region_replies.proofs.region_reply.Statement.{statement}
 use Rattle.region_replies.proofs.region_reply.Tie as tie
-use Rattle.region_replies.proofs.region_reply.Reads as reads
-use Rattle.region_replies.proofs.region_reply.Lts as lts
-use Rattle.cells.proofs.RegionAnswer.number.Reads as number-reads
-use Rattle.integers.proofs.lesser.Reads as lesser-reads
-use Rattle.region_replies.proofs.region_index.Reads as region-index-reads
-use Rattle.region_replies.proofs.region_sums.Reads as region-sums-reads
-use Rattle.replies.proofs.put_values.Reads as put-values-reads
 
--- src/lib.rt:47:9
 region-sums-requires : tie.Need-region-sums-requires
 region-sums-requires c κs = search needs
 
--- src/lib.rt:48:24
 region-index-requires : tie.Need-region-index-requires
 region-index-requires c κs = search needs
 
--- src/lib.rt:48:9
 lesser-requires : tie.Need-lesser-requires
 lesser-requires c κs = search needs
 
--- src/lib.rt:49:56
 cast-t7 : tie.Need-cast-t7
 cast-t7 c = search needs
 
--- src/lib.rt:50:16
 slice-aggregate-put-values : tie.Need-slice-aggregate-put-values
 slice-aggregate-put-values c = search needs
 
--- src/lib.rt:50:25
 number-requires : tie.Need-number-requires
 number-requires c κs = search needs
 
--- src/lib.rt:50:5
 put-values-requires : tie.Need-put-values-requires
 put-values-requires c κs = search needs
 
--- src/lib.rt:44:1
 same-length : tie.Need-same-length
 same-length c = search needs
 
--- src/lib.rt:44:1
+-- The places of the code where the answer's parts are known, and what they make up: the array holds each of them as it is.
+module _ (c : tie.After-out) where
+  abbrev number : tie.After-number
+  number = c .before .before .before
+
+  abbrev fields : tie.After-struct-told
+  fields = number .before .before
+
+  abbrev capped : tie.After-lesser
+  capped = fields .before
+
+  abbrev sums : tie.After-region-sums
+  sums = capped .before .before
+
+  abbrev buffer : List ℤ
+  buffer = sums .before .args .out .now
+
+  abbrev told : RegionOutcome
+  told = record { number = number .number .result; index = capped .lesser .result; sums = sums .region-sums .result }
+
+  index-held : toZ w64 (told .index) ≡ pos (told .index)
+  index-held = toZ-ofZ w64 (pos (told .index)) (cast-t7 capped)
+
+  held : record { number = c .before .put-values .result; buffer = c .before .put-values .last .1 .1 .0 } ≡ regionReply told buffer
+  held = c .before .put-values .ensures ∙ search (needs, fields .struct-told .given, index-held)
+
 returns : tie.Need-returns
-returns c = ?
+returns c =
+    let index-is = capped c .lesser .ensures ∙ ap (λ i. min i 4096) (capped c .before .region-index .ensures) in
+    held c ∙ (λ i. regionReply (record { number = number c .number .ensures i; index = index-is i; sums = sums c .region-sums .ensures i }) (buffer c))
 
 pub region-reply-spec : {M : Type 1} → statement M
 region-reply-spec =

@@ -1,4 +1,0 @@
-pub mod Numbers
-pub mod RegionLaws
-pub mod ReplyLaws
-pub mod WorkedReplies

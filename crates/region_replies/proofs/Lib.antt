@@ -1,0 +1,3 @@
+pub mod IndexLaw
+pub mod Numbers
+mod WorkedReplies
