@@ -18,7 +18,7 @@ use Rattle.outline_calls.specs.WalkAnswers.{endNumber, endReading}
 use Rattle.printing.specs.Output.{outlineLine, refusalLine}
 use Rattle.printing.specs.Buffer.{fitting, Written}
 use Rattle.text_program.specs.Program.{carriedEnd}
-use Rattle.lines.specs.LineOutcomes.{Finished}
+use Rattle.lines.specs.LineOutcome.{Finished}
 
 -- Every answer but the first is a refusal, and no refusal has the number 0.
 refusal-numbered : (a : EndAnswer) → OneOf (1 ∷ 2 ∷ 3 ∷ 4 ∷ 5 ∷ []) (tagOf the-type a) → endNumber a ≡ 0 → ⊥

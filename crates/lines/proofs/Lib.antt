@@ -1,4 +1,1 @@
-pub mod Answers
 pub mod EndLines
-pub mod LineAsks
-pub mod CarriedOut

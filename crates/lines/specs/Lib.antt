@@ -1,1 +1,2 @@
-pub mod LineOutcomes
+pub mod LineOutcome
+pub mod private

@@ -1,97 +1,53 @@
-// One line of the text program: what it asks of the walk and the sheet, and what is printed of it.
+// One line of the text program, carried out: what it does with the walk and the sheet, and what is printed of it.
 ghost use mathlib.Core.Path.{_≡_};
 ghost use Rattle.outline.specs.WalkCalls.{endCall};
-ghost use Rattle.outline_calls.specs.WalkAnswers.{endNumber};
-ghost use Rattle.printing.specs.Buffer.{fitting, Written};
-ghost use Rattle.text_program.specs.Program.{told, carriedEnd};
-ghost use Rattle.lines.specs.LineOutcomes.{askedAt, Finished};
+ghost use Rattle.parsing.specs.ReadForm.{reading};
+ghost use Rattle.text_program.specs.Program.{carriedWalk, carriedEnd, carryOut};
+ghost use Rattle.lines.specs.LineOutcome.{Finished};
+ghost use Rattle.lines.specs.private.WalkAnswer.{outcome};
 
 mod calls;
 
+use calls::Answered;
 use calls::abandon_walk;
 use calls::begin_walk;
 use calls::extend_walk;
-use newlines::newline;
 use outline::Sheet;
 use outline::Walk;
+use outline_calls::EndAnswer;
 use parsing::LineForm;
-use parsing::line_form;
 use printing::put_outline;
 use printing::put_refusal;
 
-// What a line asks for: the walk afterwards, the number (0 where the line is accepted), and the bytes it takes, counting a newline also where the
-// input ends without one. A size and no place, so that no sum wraps wherever the line stands. An end needs the sheet and is left to `end_line`.
-pub struct Asked {
-    pub walk: Walk,
-    pub number: u64,
-    pub size: usize,
-    pub is_end: bool,
-}
-
-// What an end leaves, and the place past what it prints.
-pub struct Ended {
+// What a line leaves, and the place past what it prints.
+pub struct LineReply {
     pub walk: Walk,
     pub sheet: Sheet,
     pub filled: usize,
 }
 
-// What the line from `at` on asks for, be it ended by a newline or by the end of s. From there on s may have no byte: that is an empty line.
-pub fn ask(walk: Walk, s: &[u8], at: usize) -> Asked
-    ensures { λ r. ⌜ r ≡ askedAt walk (now (s .entry)) at ⌝ }
+// A line that is no end prints nothing where it is accepted, else the refusal.
+fn tell(a: Answered, sheet: Sheet, line: u64, out: &mut [u8], at: usize) -> LineReply
+    ensures { λ r. ⌜ Finished (carriedWalk line (outcome a) sheet) (now (out .entry)) at (now (out .exit)) r ⌝ }
 {
-    let f = line_form(s, at);
-    match f {
-        LineForm::Point(x, y, next) => extend_walk(walk, x, y, next - at),
-        LineForm::Begin(next) => begin_walk(walk, next - at),
-        LineForm::Abandon(next) => abandon_walk(walk, next - at),
-        LineForm::End(next) => {
-            let size = next - at;
-            Asked {
-                walk,
-                number: 0,
-                size,
-                is_end: true,
-            }
-        }
-        LineForm::Other => {
-            let size = newline(s, at) - at + 1;
-            Asked {
-                walk,
-                number: 9,
-                size,
-                is_end: false,
-            }
-        }
+    let walk = a.walk;
+    if a.number == 0 {
+        return LineReply {
+            walk,
+            sheet,
+            filled: at,
+        };
+    }
+    let filled = put_refusal(out, at, line, a.number);
+    LineReply {
+        walk,
+        sheet,
+        filled,
     }
 }
 
-// What is printed of a line that is no end: nothing where it is accepted, else the refusal, if there is room for the longest line.
-pub fn tell(number: u64, line: u64, out: &mut [u8], at: usize) -> usize
-    ensures { λ r. ⌜ Written (now (out .entry)) at (fitting (now (out .entry)) at (told line number)) (now (out .exit)) r ⌝ }
-{
-    if number == 0 {
-        return at;
-    }
-    put_refusal(out, at, line, number)
-}
-
-// Each answer's number in document 01, 0 where it accepts.
-fn end_number(a: outline_calls::EndAnswer) -> u64
-    ensures { λ r. ⌜ r ≡ endNumber a ⌝ }
-{
-    match a {
-        outline_calls::EndAnswer::Accepted(_) => 0,
-        outline_calls::EndAnswer::Impossible => 28,
-        outline_calls::EndAnswer::NotOpen => 21,
-        outline_calls::EndAnswer::TooFewPoints => 24,
-        outline_calls::EndAnswer::SheetFull => 25,
-        outline_calls::EndAnswer::SheetExceeded => 26,
-    }
-}
-
-// An end prints the outline's line, or a refusal, if there is room for the longest line; it is carried out all the same where there is none.
-// The points are counted before the call, which closes the walk.
-pub fn end_line(w: Walk, s: Sheet, line: u64, out: &mut [u8], at: usize) -> Ended
+// An end prints the outline's line, or the refusal. The points are counted before the call, which closes the walk.
+fn end_walk(w: Walk, s: Sheet, line: u64, out: &mut [u8], at: usize) -> LineReply
     ensures { λ r. ⌜ Finished (carriedEnd line (w .count) (endCall w s)) (now (out .entry)) at (now (out .exit)) r ⌝ }
 {
     let points = w.count;
@@ -100,21 +56,45 @@ pub fn end_line(w: Walk, s: Sheet, line: u64, out: &mut [u8], at: usize) -> Ende
     let sheet = r.sheet;
     let a = r.answer;
     match a {
-        outline_calls::EndAnswer::Accepted(t) => {
+        EndAnswer::Accepted(t) => {
             let filled = put_outline(out, at, sheet.count, points, t);
-            Ended {
+            LineReply {
                 walk,
                 sheet,
                 filled,
             }
         }
         _ => {
-            let filled = put_refusal(out, at, line, end_number(a));
-            Ended {
+            let filled = put_refusal(out, at, line, a.number() as u64);
+            LineReply {
                 walk,
                 sheet,
                 filled,
             }
+        }
+    }
+}
+
+// The line number `line`, by its form. What it prints is written from `at` on if there is room for the longest line; where there is none, it is
+// carried out all the same.
+pub fn carry_out(
+    form: LineForm,
+    walk: Walk,
+    sheet: Sheet,
+    line: u64,
+    out: &mut [u8],
+    at: usize,
+) -> LineReply
+    ensures { λ r. ⌜ Finished (carryOut line (reading form .form) walk sheet) (now (out .entry)) at (now (out .exit)) r ⌝ }
+{
+    match form {
+        LineForm::Point(x, y, _) => tell(extend_walk(walk, x, y), sheet, line, out, at),
+        LineForm::Begin(_) => tell(begin_walk(walk), sheet, line, out, at),
+        LineForm::Abandon(_) => tell(abandon_walk(walk), sheet, line, out, at),
+        LineForm::End(_) => end_walk(walk, sheet, line, out, at),
+        LineForm::Other => {
+            let refused = Answered { walk, number: 9 };
+            tell(refused, sheet, line, out, at)
         }
     }
 }

@@ -87,7 +87,7 @@ fn run(buf: &mut [u8], out: &mut [u8])
         if s.written {
             return;
         }
-        if out.len() - filled < 192 {
+        if out.len() - filled < printing::LINE_ROOM {
             continue;
         }
         have = shift(buf, at, have);

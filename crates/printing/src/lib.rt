@@ -16,7 +16,7 @@ use outline::Sheet;
 use outline::Totals;
 
 // Room for the longest line.
-const LINE_ROOM: usize = 192;
+pub const LINE_ROOM: usize = 192;
 
 // Whether a buffer of this size lacks room for the longest line from `at` on.
 fn too_short(size: usize, at: usize) -> bool

@@ -1,37 +1,13 @@
--- What the streaming core's functions answer, in the terms of `text_program`'s definitions of a step and a call. Ours; document 01 speaks of the whole output.
-use Prim.Native.Nat.{ℕ, _+_, _^_, _≤_, _<_}
+-- What a call of the streaming core answers, in the terms of `text_program`'s definition of a call. Ours; document 01 speaks of the whole output.
 use mathlib.Core.Path.{_≡_}
-use mathlib.Core.Bool.{Bool, cond}
 use mathlib.Core.List.{List}
-use lib.Dec.{ltb}
+use Prim.Native.Nat.{ℕ}
 use lib.ListN.{length}
-use Rattle.outline.specs.declared.Sheet.{Sheet}
-use Rattle.printing.specs.Buffer.{lineRoom, overwritten}
-use Rattle.text_program.specs.declared.State.{State}
-use Rattle.text_program.specs.Stream.{Step, halted, step}
-use Rattle.stream.specs.declared.Stepped.{Stepped}
+use Rattle.printing.specs.Buffer.{overwritten}
+use Rattle.text_program.specs.Stream.{Step}
 use Rattle.stream.specs.declared.Fed.{Fed}
 
--- A step that the code takes from the place `at` of the chunk and the place `to` of the output.
-abbrev pub stepped : Step → ℕ → ℕ → Stepped
-stepped q at to = record { state = q .state; sheet = q .sheet; at = at + q .used; filled = to + length (q .output); more = q .more }
-
 -- Its answer, and the whole buffer after it.
-pub record Steps (q : Step) (at : ℕ) (before : List ℕ) (to : ℕ) (after : List ℕ) (r : Stepped) : Type 0 where
-  pub answer : r ≡ stepped q at to
-  pub buffer : after ≡ overwritten before to (q .output)
-
--- A step is taken where there is room for the longest line.
-unfoldable pub stepWithRoom : Bool → State → Sheet → List ℕ → ℕ → Step
-stepWithRoom final st s chunk room = cond (ltb room lineRoom) (halted st s) (step final st s chunk)
-
--- A whole call: its answer, and the whole buffer after it.
 pub record Feeds (q : Step) (before after : List ℕ) (r : Fed) : Type 0 where
   pub answer : r ≡ record { state = q .state; sheet = q .sheet; used = q .used; filled = length (q .output) }
   pub buffer : after ≡ overwritten before 0 (q .output)
-
--- What the code counts of a line stays within 10's limits, and so within its counters, and the place after the line is a number of its width.
-pub record Counts (st : State) (at size : ℕ) : Type 0 where
-  pub lines : st .lines < 1_000_000
-  pub bytes : st .bytes + st .held + size ≤ 33_000_000
-  pub place : at + size < 2 ^ 64

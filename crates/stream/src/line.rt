@@ -1,23 +1,25 @@
 // The line at the front of what is left of a chunk.
 ghost use mathlib.Core.Path.{_≡_};
-ghost use mathlib.Core.Bool.{not, _&&_};
+ghost use mathlib.Core.Bool.{not, _&&_, cond};
 ghost use Prim.Native.Nat.{_+_, _≤_, _<_};
 ghost use lib.Dec.{ltb};
 ghost use lib.ListN.{length, drop};
-ghost use Rattle.outline.specs.WalkCalls.{endCall};
+ghost use Rattle.parsing.specs.declared.LineForm.the-variants.{Other};
+ghost use Rattle.parsing.specs.ReadForm.{lineLength, formAt, reading};
 ghost use Rattle.printing.specs.Buffer.{lineRoom};
-ghost use Rattle.text_program.specs.Program.{told, carriedEnd};
+ghost use Rattle.text_program.specs.Program.{carryOut};
 ghost use Rattle.text_program.specs.Stream.{afterLine, carriedStep, part, lineStep};
-ghost use Rattle.stream.specs.Feeding.{stepped, Steps, Counts};
+ghost use Rattle.stream.specs.private.Steps.{stepped, Steps, Counts};
 use crate::Stepped;
 use crate::step::end_reading;
 use crate::step::halt;
 use integers::lesser;
-use lines::ask;
-use lines::end_line;
-use lines::tell;
+use lines::carry_out;
 use outline::Sheet;
 use outline::Walk;
+use parsing::LineForm;
+use parsing::line_form;
+use parsing::newline;
 use text_program::State;
 
 // Byte 33,000,001 is reached.
@@ -72,58 +74,6 @@ fn after_line(state: State, walk: Walk, size: usize) -> State
     }
 }
 
-// A line that printed its number, or nothing where that is 0.
-fn told_line(
-    state: State,
-    walk: Walk,
-    number: u64,
-    sheet: Sheet,
-    at: usize,
-    size: usize,
-    out: &mut [u8],
-    filled: usize,
-) -> Stepped
-    requires { ⌜ Counts state at size ⌝ }
-    requires { ⌜ filled + lineRoom ≤ length (now out) ⌝ }
-    ensures { λ r. ⌜ Steps (carriedStep state (record { output = told (state .lines + 1) number; walk = walk; sheet = sheet }) size) at (now (out .entry)) filled (now (out .exit)) r ⌝ }
-{
-    let p = tell(number, state.lines as u64 + 1, out, filled);
-    let s = after_line(state, walk, size);
-    Stepped {
-        state: s,
-        sheet,
-        at: at + size,
-        filled: p,
-        more: true,
-    }
-}
-
-fn ended_line(
-    state: State,
-    walk: Walk,
-    sheet: Sheet,
-    at: usize,
-    size: usize,
-    out: &mut [u8],
-    filled: usize,
-) -> Stepped
-    requires { ⌜ Counts state at size ⌝ }
-    requires { ⌜ filled + lineRoom ≤ length (now out) ⌝ }
-    ensures { λ r. ⌜ Steps (carriedStep state (carriedEnd (state .lines + 1) (walk .count) (endCall walk sheet)) size) at (now (out .entry)) filled (now (out .exit)) r ⌝ }
-{
-    let e = end_line(walk, sheet, state.lines as u64 + 1, out, filled);
-    let walk_after = e.walk;
-    let sheet_after = e.sheet;
-    let s = after_line(state, walk_after, size);
-    Stepped {
-        state: s,
-        sheet: sheet_after,
-        at: at + size,
-        filled: e.filled,
-        more: true,
-    }
-}
-
 // The chunk ends before the line does, and is not the last.
 fn unended(size: usize, left: usize, last: bool) -> bool
     ensures { λ r. ⌜ r ≡ (ltb left size && not last) ⌝ }
@@ -132,6 +82,58 @@ fn unended(size: usize, left: usize, last: bool) -> bool
         return !last;
     }
     false
+}
+
+// The bytes of the line at `at`, whose form is read, counting a newline also where the input ends without one.
+fn line_size(form: LineForm, s: &[u8], at: usize) -> usize
+    requires { ⌜ reading form ≡ formAt (now s) at ⌝ }
+    ensures { λ r. ⌜ r ≡ lineLength (drop at (now (s .entry))) + 1 ⌝ }
+{
+    match form {
+        LineForm::Point(_, _, next) => next - at,
+        LineForm::Begin(next) => next - at,
+        LineForm::Abandon(next) => next - at,
+        LineForm::End(next) => next - at,
+        LineForm::Other => newline(s, at) - at + 1,
+    }
+}
+
+// A line of which bytes are gone has none of the forms, whatever is left of it.
+fn with_gone(held: u32, form: LineForm) -> LineForm
+    ensures { λ r. ⌜ r ≡ cond (ltb 0 held) Other form ⌝ }
+{
+    if 0 < held {
+        return LineForm::Other;
+    }
+    form
+}
+
+// A whole line, of `size` bytes in the chunk, is carried out and counted.
+fn whole_line(
+    state: State,
+    sheet: Sheet,
+    form: LineForm,
+    at: usize,
+    size: usize,
+    out: &mut [u8],
+    filled: usize,
+) -> Stepped
+    requires { ⌜ Counts state at size ⌝ }
+    requires { ⌜ filled + lineRoom ≤ length (now out) ⌝ }
+    ensures { λ r. ⌜ Steps (carriedStep state (carryOut (state .lines + 1) (reading form .form) (state .walk) sheet) size) at (now (out .entry)) filled (now (out .exit)) r ⌝ }
+{
+    let walk = state.walk;
+    let c = carry_out(form, walk, sheet, state.lines as u64 + 1, out, filled);
+    let walk_after = c.walk;
+    let sheet_after = c.sheet;
+    let counted = after_line(state, walk_after, size);
+    Stepped {
+        state: counted,
+        sheet: sheet_after,
+        at: at + size,
+        filled: c.filled,
+        more: true,
+    }
 }
 
 pub(crate) fn line_step(
@@ -148,22 +150,15 @@ pub(crate) fn line_step(
     requires { ⌜ filled + lineRoom ≤ length (now out) ⌝ }
     ensures { λ r. ⌜ Steps (lineStep last state sheet (drop at (now (chunk .entry)))) at (now (out .entry)) filled (now (out .exit)) r ⌝ }
 {
-    let w = state.walk;
-    let a = ask(w, chunk, at);
-    let walk = a.walk;
+    let form = line_form(chunk, at);
+    let whole = line_size(form, chunk, at);
     let left = chunk.len() - at;
-    let size = lesser(a.size, left);
+    let size = lesser(whole, left);
     if past_limit(state, size) {
         return end_reading(state, sheet, chunk.len(), out, filled);
     }
-    if unended(a.size, left, last) {
+    if unended(whole, left, last) {
         return part_of_line(state, sheet, at, size, filled);
     }
-    if 0 < state.held {
-        return told_line(state, w, 9, sheet, at, size, out, filled);
-    }
-    if a.is_end {
-        return ended_line(state, walk, sheet, at, size, out, filled);
-    }
-    told_line(state, walk, a.number, sheet, at, size, out, filled)
+    whole_line(state, sheet, with_gone(state.held, form), at, size, out, filled)
 }

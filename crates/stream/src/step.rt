@@ -7,10 +7,11 @@ ghost use lib.Dec.{eqb};
 ghost use lib.ListN.{length, drop};
 ghost use Rattle.printing.specs.Buffer.{lineRoom};
 ghost use Rattle.text_program.specs.Stream.{halted, closing, ending};
-ghost use Rattle.stream.specs.Feeding.{stepped, Steps, stepWithRoom};
+ghost use Rattle.stream.specs.private.Steps.{stepped, Steps, stepWithRoom};
 use crate::Stepped;
 use crate::line::line_step;
 use outline::Sheet;
+use printing::LINE_ROOM;
 use printing::put_refusal;
 use printing::put_sheet;
 use text_program::State;
@@ -124,7 +125,7 @@ pub(crate) fn step(
     if state.written {
         return halt(state, sheet, at, filled);
     }
-    if out.len() - filled < 192 {
+    if out.len() - filled < LINE_ROOM {
         return halt(state, sheet, at, filled);
     }
     let left = chunk.len() - at;

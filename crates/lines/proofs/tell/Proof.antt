@@ -1,12 +1,13 @@
 -- `tell` writes nothing for the number 0.
 use Prim.Native.Nat.{ℕ, _+_}
-use mathlib.Core.Path.{sym}
+use mathlib.Core.Path.{refl, sym}
 use mathlib.Core.List.{List, []}
 use native.Mathlib.Omega.{arith}
 use lib.Dec.{ltb}
 use lib.ListN.{length}
 use borrow.Author.Needs.{needs}
 use borrow.Author.Tests.{eq-eqb, ne-eqb}
+use Rattle.text_program.specs.Program.{carriedWalk}
 use Rattle.printing.specs.Buffer.{lineRoom, fitting, Written}
 use Rattle.printing.proofs.Cases.{by-cond}
 use Rattle.printing.proofs.PutLaws.{put-nothing}
@@ -20,7 +21,10 @@ nothing-written o at =
     by-cond (λ text. Written o at text o at) (ltb (length o) (at + lineRoom)) (λ e. w) (λ e. w)
 
 returns : tie.Need-returns
-returns c = let s = c .before .before in rw (eq-eqb (s .args .number) 0 (c .if1 .taken)) (nothing-written (s .args .out .now) (s .args .at))
+unfolding carriedWalk
+returns c =
+    let at-start = c .before .before .before .before in
+    record { walk = refl; sheet = refl; text = rw (eq-eqb (at-start .args .a .number) 0 (c .if1 .taken)) (nothing-written (at-start .args .out .now) (at-start .args .at)) }
 
 put-refusal-requires : tie.Need-put-refusal-requires
 put-refusal-requires c κs = search needs
@@ -29,7 +33,11 @@ same-length : tie.Need-same-length
 same-length c = search needs
 
 returns-2 : tie.Need-returns-2
-returns-2 c = let s = c .before .before .before .before .before .before in rw (ne-eqb (s .args .number) 0 (c .before .before .before .before .if1 .left)) (c .before .before .put-refusal .ensures)
+unfolding carriedWalk
+returns-2 c =
+    let tested = c .before .before .before .before in
+    let at-start = tested .before .before .before .before in
+    record { walk = refl; sheet = refl; text = rw (ne-eqb (at-start .args .a .number) 0 (tested .if1 .left)) (c .before .before .put-refusal .ensures) }
 
 pub tell-spec : {M : Type 1} → statement M
 tell-spec = tie.close (tie.spec returns put-refusal-requires same-length returns-2)
