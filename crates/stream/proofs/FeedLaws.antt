@@ -16,7 +16,7 @@ use Rattle.text_program.specs.Stream.{Step, halted, followed, step, steps, feed
 use Rattle.text_program.proofs.Progress.{workLeft, StepProgress, stays, less, step-progress, feed-steps}
 use Rattle.text_program.proofs.CallEnds.{step-used}
 use Rattle.stream.proofs.Places.{nothing-written}
-use Rattle.stream.specs.Feeding.{stepWithRoom}
+use Rattle.stream.specs.private.Steps.{stepWithRoom}
 
 -- A step after which `text_program` is written and `used` bytes are taken, and then q.
 abbrev pub after : List ℕ → ℕ → Step → Step

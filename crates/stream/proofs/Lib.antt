@@ -1,4 +1,5 @@
 pub mod Places
+pub mod FormsRead
 pub mod LineLaws
 pub mod StepLaws
 pub mod FeedLaws

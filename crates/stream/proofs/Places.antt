@@ -14,7 +14,7 @@ use Rattle.printing.proofs.Cases.{by-cond}
 use Rattle.text_program.specs.declared.State.{State}
 use Rattle.text_program.specs.Stream.{Step, halted, part}
 use Rattle.stream.specs.declared.Stepped.{Stepped}
-use Rattle.stream.specs.Feeding.{stepped, Steps}
+use Rattle.stream.specs.private.Steps.{stepped, Steps}
 
 -- Where there is room for the longest line, the whole of a line is written.
 pub written : {o p x : List ℕ} {at a : ℕ} → at + lineRoom ≤ length o → Written o at (fitting o at x) p a → Written o at x p a

@@ -11,7 +11,7 @@ use Rattle.outline.specs.declared.Sheet.{Sheet}
 use Rattle.printing.specs.Buffer.{lineRoom}
 use Rattle.text_program.specs.declared.State.{State}
 use Rattle.text_program.specs.Stream.{Step, halted, closing, ending, lineStep, step}
-use Rattle.stream.specs.Feeding.{stepWithRoom}
+use Rattle.stream.specs.private.Steps.{stepWithRoom}
 
 module _ (final : Bool) (st : State) (s : Sheet) (chunk : List ℕ) (room : ℕ) where
   -- The S line is written, or there is no room for a line.

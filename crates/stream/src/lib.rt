@@ -19,7 +19,7 @@ pub struct Fed {
 }
 
 // What a step leaves: the places that it has come to in the chunk and in the output, and whether another may follow.
-pub struct Stepped {
+pub(crate) struct Stepped {
     pub state: State,
     pub sheet: Sheet,
     pub at: usize,

@@ -5,7 +5,8 @@ ghost use Prim.Native.Nat.{_+_, _≤_, _<_};
 ghost use lib.Dec.{ltb};
 ghost use lib.ListN.{length, drop};
 ghost use Rattle.parsing.specs.declared.LineForm.the-variants.{Other};
-ghost use Rattle.parsing.specs.ReadForm.{lineLength, formAt, reading};
+ghost use Rattle.newlines.specs.LineLength.{lineLength};
+ghost use Rattle.parsing.specs.ReadForm.{formAt, reading};
 ghost use Rattle.printing.specs.Buffer.{lineRoom};
 ghost use Rattle.text_program.specs.Program.{carryOut};
 ghost use Rattle.text_program.specs.Stream.{afterLine, carriedStep, part, lineStep};
@@ -15,11 +16,11 @@ use crate::step::end_reading;
 use crate::step::halt;
 use integers::lesser;
 use lines::carry_out;
+use newlines::newline;
 use outline::Sheet;
 use outline::Walk;
 use parsing::LineForm;
 use parsing::line_form;
-use parsing::newline;
 use text_program::State;
 
 // Byte 33,000,001 is reached.
@@ -160,5 +161,13 @@ pub(crate) fn line_step(
     if unended(whole, left, last) {
         return part_of_line(state, sheet, at, size, filled);
     }
-    whole_line(state, sheet, with_gone(state.held, form), at, size, out, filled)
+    whole_line(
+        state,
+        sheet,
+        with_gone(state.held, form),
+        at,
+        size,
+        out,
+        filled,
+    )
 }
