@@ -6,7 +6,7 @@ use lib.ListN.{drop, length-drop}
 use Rattle.parsing.specs.declared.LineForm.{LineForm}
 use Rattle.newlines.specs.LineLength.{lineLength}
 use Rattle.parsing.specs.ReadForm.{formed, reading}
-use Rattle.parsing.proofs.FrontLaws.{line-within}
+use Rattle.newlines.proofs.Newlines.{line-within}
 use Rattle.stream.proofs.FormsRead.{next-line}
 use borrow.Author.Needs.{needs}
 use Rattle.stream.proofs.line.line_size.Statement.{statement}
