@@ -63,9 +63,9 @@ front-closed rule (b ∷ bs) r at = go (front-closed (λ t. rule (b ∷ t)) bs r
 -- ---- the place of the next line
 
 -- A line that stands k bytes further on.
-pub front-further-on : (rule : List ℕ → Form) (bs : List ℕ) (at k : ℕ) → formed (lineFront rule bs at .form) (k + lineFront rule bs at .next) ≡ lineFront rule bs (k + at)
+pub front-offset : (rule : List ℕ → Form) (bs : List ℕ) (at k : ℕ) → formed (lineFront rule bs at .form) (k + lineFront rule bs at .next) ≡ lineFront rule bs (k + at)
 unfolding lineFront formed
-front-further-on rule bs at k =
+front-offset rule bs at k =
     let e : k + (at + lineLength bs + 1) ≡ k + at + lineLength bs + 1 = omega arith in
     go (rule (take (lineLength bs) bs)) (at + lineLength bs + 1) ∙ ap (formed (rule (take (lineLength bs) bs))) e
   where

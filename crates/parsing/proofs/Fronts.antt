@@ -146,20 +146,20 @@ long-line b c bs at h k = go (eqb b 10) refl
         ∙ (front-step (λ t. formOf (b ∷ t)) c bs (at + 1) k ∙ front-none (λ t. formOf (b ∷ c ∷ t)) bs (at + 1 + 1) (λ t. second-byte b c t (λ j i. h j)))
 
 -- A line of one byte.
-pub letter-line : (b : ℕ) (bs : List ℕ) (at : ℕ) → (b ≡ 10 → ⊥) → lineFront formOf (b ∷ 10 ∷ bs) at ≡ formed (formOf (b ∷ [])) (at + 2)
-letter-line b bs at h = let e : at + 1 + 1 ≡ at + 2 = omega arith in front-step formOf b (10 ∷ bs) at h ∙ (front-end (λ t. formOf (b ∷ t)) bs (at + 1) ∙ ap (formed (formOf (b ∷ []))) e)
+pub one-byte-line : (b : ℕ) (bs : List ℕ) (at : ℕ) → lineFront formOf (b ∷ 10 ∷ bs) at ≡ formed (formOf (b ∷ [])) (at + 2)
+unfolding formOf formOfFields fields withFirst letterOf
+one-byte-line b bs at = go (eqb b 10) refl
+  where
+    go : (t : Bool) → eqb b 10 ≡ t → lineFront formOf (b ∷ 10 ∷ bs) at ≡ formed (formOf (b ∷ [])) (at + 2)
+    go true e = rw (eqb-true b 10 e) (empty-line (10 ∷ bs) at ∙ sym (formed-other (at + 2)))
+    go false e =
+        let two : at + 1 + 1 ≡ at + 2 = omega arith in
+        front-step formOf b (10 ∷ bs) at (eqb-false b 10 e) ∙ (front-end (λ t. formOf (b ∷ t)) bs (at + 1) ∙ ap (formed (formOf (b ∷ []))) two)
 
-no-letter : (b : ℕ) → (b ≡ 66 → ⊥) → (b ≡ 69 → ⊥) → (b ≡ 65 → ⊥) → formOf (b ∷ []) ≡ other
+pub no-letter : (b : ℕ) → (b ≡ 66 → ⊥) → (b ≡ 69 → ⊥) → (b ≡ 65 → ⊥) → formOf (b ∷ []) ≡ other
 unfolding formOf formOfFields fields withFirst letterOf
 no-letter b h k m = go (eqb b 9) refl
   where
     go : (t : Bool) → eqb b 9 ≡ t → formOfFields (fields (b ∷ [])) ≡ other
     go true e = rw e
     go false e = rw (e, ne-eqb b 66 h, ne-eqb b 69 k, ne-eqb b 65 m)
-
-pub other-line : (b : ℕ) (bs : List ℕ) (at : ℕ) → (b ≡ 66 → ⊥) → (b ≡ 69 → ⊥) → (b ≡ 65 → ⊥) → lineFront formOf (b ∷ 10 ∷ bs) at ≡ noForm
-other-line b bs at h k m = go (eqb b 10) refl
-  where
-    go : (t : Bool) → eqb b 10 ≡ t → lineFront formOf (b ∷ 10 ∷ bs) at ≡ noForm
-    go true e = rw (eqb-true b 10 e) (empty-line (10 ∷ bs) at)
-    go false e = letter-line b bs at (eqb-false b 10 e) ∙ (rw (no-letter b h k m) (formed-other (at + 2)))

@@ -11,6 +11,7 @@ use mir.Val.{boolByte}
 use Rattle.newlines.proofs.Newlines.{byte-at}
 use Rattle.text_numbers.specs.Numbers.{isDigit, allDigits, isNatural, Number, negativeOf, naturalOf, numberOf}
 use Rattle.text_numbers.specs.LeadingNumber.{leadingDigits, sized, leadingNumber}
+use Rattle.text_numbers.specs.declared.NumberAt.{NumberAt}
 use Rattle.parsing.specs.private.Parts.{numberToken, numberAt}
 
 signed-digits : (b : ℕ) (ds : List ℕ) → eqb b 45 ≡ true → numberOf (b ∷ ds) ≡ negativeOf ds
@@ -57,9 +58,10 @@ behind-minus s at h true = four-at s (at + 1) (omega arith)
 behind-minus s at h false = let e : at + 0 ≡ at = omega arith in rw e (ap (take 4) (sym (byte-at s at (omega arith))) ∙ four-at s at (omega arith))
 
 -- The number at a place, by the bytes that the code reads.
-pub number-at : (s : List ℕ) (at : ℕ) → at + 5 ≤ length s → let m = eqb (getD s at 0) 45 in let i = at + boolByte m in leadingNumber m (getD s i 0 ∷ getD s (i + 1) 0 ∷ getD s (i + 2) 0 ∷ getD s (i + 3) 0 ∷ []) ≡ numberAt (drop at s)
-number-at s at h =
+pub number-at : (s : List ℕ) (at : ℕ) → at + 5 ≤ length s → {r : NumberAt} → (let m = eqb (getD s at 0) 45 in let i = at + boolByte m in r ≡ leadingNumber m (getD s i 0 ∷ getD s (i + 1) 0 ∷ getD s (i + 2) 0 ∷ getD s (i + 3) 0 ∷ [])) → r ≡ numberAt (drop at s)
+number-at s at h e =
     let m = eqb (getD s at 0) 45 in
-    sym (ap numberAt (byte-at s at (omega arith))
+    e
+    ∙ sym (ap numberAt (byte-at s at (omega arith))
     ∙ number-reads (getD s at 0) (drop (at + 1) s)
     ∙ ap (leadingNumber m) (behind-minus s at h m))

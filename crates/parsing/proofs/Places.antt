@@ -13,7 +13,7 @@ use Rattle.parsing.specs.private.Parts.{numberToken, numberAt, secondFor
 use Rattle.text_numbers.specs.declared.NumberAt.{NumberAt}
 use Rattle.parsing.proofs.Tokens.{token-size}
 use Rattle.newlines.proofs.Newlines.{byte-at}
-use Rattle.parsing.proofs.Fronts.{number-none, Found, number-some, number-size, y-ends, y-goes-on, y-malformed, past-x, x-malformed, x-no-tab, p-no-tab, p-line, long-line, letter-line, other-line}
+use Rattle.parsing.proofs.Fronts.{number-none, Found, number-some, number-size, y-ends, y-goes-on, y-malformed, past-x, x-malformed, x-no-tab, p-no-tab, p-line, long-line, one-byte-line}
 
 -- Where the number behind the tab at `at` ends.
 abbrev numberEnd : List ℕ → ℕ → ℕ
@@ -33,65 +33,69 @@ module _ (s : List ℕ) (at : ℕ) where
   pub after-p : at < length s → getD s at 0 ≡ 80 → lineFront (λ bs. formOf (80 ∷ bs)) (drop (at + 1) s) (at + 1) ≡ lineFront formOf (drop at s) at
   after-p h e = sym (begins formOf 80 h e ∙ p-line (drop (at + 1) s) at)
 
-  -- A tab at `at`, and the number r behind it.
-  module _ (room : at + 7 ≤ length s) (tab : getD s at 0 ≡ 9) (r : NumberAt) (e : r ≡ numberAt (drop (at + 1) s)) where
-    in-line : numberEnd s at < length s
-    in-line = omega (arith, token-size (drop (at + 1) s))
+-- A tab at `at`, and the number r behind it.
+pub record TabNumber (s : List ℕ) (at : ℕ) (r : NumberAt) : Type 0 where
+  pub room : at + 7 ≤ length s
+  pub tab : getD s at 0 ≡ 9
+  pub number-is : r ≡ numberAt (drop (at + 1) s)
 
-    behind : drop (length (numberToken (drop (at + 1) s))) (drop (at + 1) s) ≡ getD s (numberEnd s at) 0 ∷ drop (numberEnd s at + 1) s
-    behind = drop-drop (length (numberToken (drop (at + 1) s))) (at + 1) s ∙ byte-at s (numberEnd s at) in-line
+module _ {s : List ℕ} {at : ℕ} {r : NumberAt} (t : TabNumber s at r) where
+  tab-within : at < length s
+  tab-within = omega (arith, t .room)
 
-    pub size-small : r .size ≤ 5
-    size-small = rw e (number-size (drop (at + 1) s))
+  in-line : numberEnd s at < length s
+  in-line = omega (arith, t .room, token-size (drop (at + 1) s))
 
-    no-number : r .size ≡ 0 → numberOf (numberToken (drop (at + 1) s)) ≡ malformed
-    no-number h = number-none (drop (at + 1) s) (ap (λ (q : NumberAt). q .size) (sym e) ∙ h)
+  behind : drop (length (numberToken (drop (at + 1) s))) (drop (at + 1) s) ≡ getD s (numberEnd s at) 0 ∷ drop (numberEnd s at + 1) s
+  behind = drop-drop (length (numberToken (drop (at + 1) s))) (at + 1) s ∙ byte-at s (numberEnd s at) in-line
 
-    found : (r .size ≡ 0 → ⊥) → Found (drop (at + 1) s)
-    found h = number-some (drop (at + 1) s) (λ k. h (ap (λ (q : NumberAt). q .size) e ∙ k))
+  pub size-small : r .size ≤ 5
+  size-small = rw (t .number-is) (number-size (drop (at + 1) s))
 
-    token-length : (r .size ≡ 0 → ⊥) → length (numberToken (drop (at + 1) s)) ≡ r .size
-    token-length h = found h .size ∙ ap (λ (q : NumberAt). q .size) (sym e)
+  no-number : r .size ≡ 0 → numberOf (numberToken (drop (at + 1) s)) ≡ malformed
+  no-number h = number-none (drop (at + 1) s) (ap (λ (q : NumberAt). q .size) (sym (t .number-is)) ∙ h)
 
-    token-value : (r .size ≡ 0 → ⊥) → numberOf (numberToken (drop (at + 1) s)) ≡ number (r .value)
-    token-value h = found h .value ∙ ap (λ (q : NumberAt). number (q .value)) (sym e)
+  found : (r .size ≡ 0 → ⊥) → Found (drop (at + 1) s)
+  found h = number-some (drop (at + 1) s) (λ k. h (ap (λ (q : NumberAt). q .size) (t .number-is) ∙ k))
 
-    pub second-malformed : (n : Number) → r .size ≡ 0 → noForm ≡ lineFront (secondForm n) (drop at s) at
-    second-malformed n h = sym (begins (secondForm n) 9 (omega arith) tab ∙ y-malformed (drop (at + 1) s) at behind n (no-number h))
+  token-length : (r .size ≡ 0 → ⊥) → length (numberToken (drop (at + 1) s)) ≡ r .size
+  token-length h = found h .size ∙ ap (λ (q : NumberAt). q .size) (sym (t .number-is))
 
-    pub second-goes-on : (n : Number) → (r .size ≡ 0 → ⊥) → (getD s (at + 1 + r .size) 0 ≡ 10 → ⊥) → noForm ≡ lineFront (secondForm n) (drop at s) at
-    second-goes-on n h k = sym (begins (secondForm n) 9 (omega arith) tab ∙ y-goes-on (drop (at + 1) s) at behind n (λ q. k (ap (λ (i : ℕ). getD s (at + 1 + i) 0) (sym (token-length h)) ∙ q)))
+  token-value : (r .size ≡ 0 → ⊥) → numberOf (numberToken (drop (at + 1) s)) ≡ number (r .value)
+  token-value h = found h .value ∙ ap (λ (q : NumberAt). number (q .value)) (sym (t .number-is))
 
-    pub second-ends : (x : ℤ) → (r .size ≡ 0 → ⊥) → getD s (at + 1 + r .size) 0 ≡ 10 → _≡_ {A = Front} (record { form = point x (r .value); next = at + 1 + r .size + 1 }) (lineFront (secondForm (number x)) (drop at s) at)
-    unfolding formed pointOf
-    second-ends x h k =
-        sym (begins (secondForm (number x)) 9 (omega arith) tab
-        ∙ (y-ends (drop (at + 1) s) at behind (number x) (ap (λ (i : ℕ). getD s (at + 1 + i) 0) (token-length h) ∙ k)
-        ∙ (ap (λ (q : Number). formed (pointOf (number x) q) (numberEnd s at + 1)) (token-value h)
-        ∙ ap (λ (i : ℕ). formed (point x (r .value)) (at + 1 + i + 1)) (token-length h))))
+  pub second-malformed : (n : Number) → r .size ≡ 0 → noForm ≡ lineFront (secondForm n) (drop at s) at
+  second-malformed n h = sym (begins s at (secondForm n) 9 tab-within (t .tab) ∙ y-malformed (drop (at + 1) s) at behind n (no-number h))
 
-    pub point-malformed-x : r .size ≡ 0 → noForm ≡ lineFront (λ bs. formOf (80 ∷ bs)) (drop at s) at
-    point-malformed-x h = sym (begins (λ bs. formOf (80 ∷ bs)) 9 (omega arith) tab ∙ x-malformed (drop (at + 1) s) at behind (no-number h))
+  pub second-goes-on : (n : Number) → (r .size ≡ 0 → ⊥) → (getD s (at + 1 + r .size) 0 ≡ 10 → ⊥) → noForm ≡ lineFront (secondForm n) (drop at s) at
+  second-goes-on n h k = sym (begins s at (secondForm n) 9 tab-within (t .tab) ∙ y-goes-on (drop (at + 1) s) at behind n (λ q. k (ap (λ (i : ℕ). getD s (at + 1 + i) 0) (sym (token-length h)) ∙ q)))
 
-    pub point-rest : (r .size ≡ 0 → ⊥) → lineFront (secondForm (number (r .value))) (drop (at + 1 + r .size) s) (at + 1 + r .size) ≡ lineFront (λ bs. formOf (80 ∷ bs)) (drop at s) at
-    point-rest h =
-        sym (begins (λ bs. formOf (80 ∷ bs)) 9 (omega arith) tab
-        ∙ (past-x (drop (at + 1) s) at behind
-        ∙ (ap (λ (l : List ℕ). lineFront (secondForm (numberOf (numberToken (drop (at + 1) s)))) l (numberEnd s at)) (sym (byte-at s (numberEnd s at) in-line))
-        ∙ (ap (λ (q : Number). lineFront (secondForm q) (drop (numberEnd s at) s) (numberEnd s at)) (token-value h)
-        ∙ ap (λ (i : ℕ). lineFront (secondForm (number (r .value))) (drop (at + 1 + i) s) (at + 1 + i)) (token-length h)))))
+  pub second-ends : (x : ℤ) → (r .size ≡ 0 → ⊥) → getD s (at + 1 + r .size) 0 ≡ 10 → _≡_ {A = Front} (record { form = point x (r .value); next = at + 1 + r .size + 1 }) (lineFront (secondForm (number x)) (drop at s) at)
+  unfolding formed pointOf
+  second-ends x h k =
+      sym (begins s at (secondForm (number x)) 9 tab-within (t .tab)
+      ∙ (y-ends (drop (at + 1) s) at behind (number x) (ap (λ (i : ℕ). getD s (at + 1 + i) 0) (token-length h) ∙ k)
+      ∙ (ap (λ (q : Number). formed (pointOf (number x) q) (numberEnd s at + 1)) (token-value h)
+      ∙ ap (λ (i : ℕ). formed (point x (r .value)) (at + 1 + i + 1)) (token-length h))))
 
-  -- Two bytes.
-  module _ (room : at + 2 ≤ length s) where
-    two-bytes : (b c : ℕ) → getD s at 0 ≡ b → getD s (at + 1) 0 ≡ c → lineFront formOf (drop at s) at ≡ lineFront formOf (b ∷ c ∷ drop (at + 1 + 1) s) at
-    two-bytes b c e d = begins formOf b (omega arith) e ∙ ap (λ (l : List ℕ). lineFront formOf (b ∷ l) at) (byte-at s (at + 1) (omega arith) ∙ ap (λ (q : ℕ). q ∷ drop (at + 1 + 1) s) d)
+  pub point-malformed-x : r .size ≡ 0 → noForm ≡ lineFront (λ bs. formOf (80 ∷ bs)) (drop at s) at
+  point-malformed-x h = sym (begins s at (λ bs. formOf (80 ∷ bs)) 9 tab-within (t .tab) ∙ x-malformed (drop (at + 1) s) at behind (no-number h))
 
-    pub too-long : (getD s at 0 ≡ 80 → ⊥) → (getD s (at + 1) 0 ≡ 10 → ⊥) → noForm ≡ lineFront formOf (drop at s) at
-    too-long h k = sym (two-bytes (getD s at 0) (getD s (at + 1) 0) refl refl ∙ long-line (getD s at 0) (getD s (at + 1) 0) (drop (at + 1 + 1) s) at h k)
+  pub point-rest : (r .size ≡ 0 → ⊥) → lineFront (secondForm (number (r .value))) (drop (at + 1 + r .size) s) (at + 1 + r .size) ≡ lineFront (λ bs. formOf (80 ∷ bs)) (drop at s) at
+  point-rest h =
+      sym (begins s at (λ bs. formOf (80 ∷ bs)) 9 tab-within (t .tab)
+      ∙ (past-x (drop (at + 1) s) at behind
+      ∙ (ap (λ (l : List ℕ). lineFront (secondForm (numberOf (numberToken (drop (at + 1) s)))) l (numberEnd s at)) (sym (byte-at s (numberEnd s at) in-line))
+      ∙ (ap (λ (q : Number). lineFront (secondForm q) (drop (numberEnd s at) s) (numberEnd s at)) (token-value h)
+      ∙ ap (λ (i : ℕ). lineFront (secondForm (number (r .value))) (drop (at + 1 + i) s) (at + 1 + i)) (token-length h)))))
 
-    module _ (newline : getD s (at + 1) 0 ≡ 10) where
-      pub letter : (b : ℕ) → getD s at 0 ≡ b → (b ≡ 10 → ⊥) → formed (formOf (b ∷ [])) (at + 2) ≡ lineFront formOf (drop at s) at
-      letter b e h = sym (two-bytes b 10 e newline ∙ letter-line b (drop (at + 1 + 1) s) at h)
+-- Two bytes.
+module _ (s : List ℕ) (at : ℕ) (room : at + 2 ≤ length s) where
+  two-bytes : (b c : ℕ) → getD s at 0 ≡ b → getD s (at + 1) 0 ≡ c → lineFront formOf (drop at s) at ≡ lineFront formOf (b ∷ c ∷ drop (at + 1 + 1) s) at
+  two-bytes b c e d = begins s at formOf b (omega arith) e ∙ ap (λ (l : List ℕ). lineFront formOf (b ∷ l) at) (byte-at s (at + 1) (omega arith) ∙ ap (λ (q : ℕ). q ∷ drop (at + 1 + 1) s) d)
 
-      pub no-letter : (getD s at 0 ≡ 66 → ⊥) → (getD s at 0 ≡ 69 → ⊥) → (getD s at 0 ≡ 65 → ⊥) → noForm ≡ lineFront formOf (drop at s) at
-      no-letter h k m = sym (two-bytes (getD s at 0) 10 refl newline ∙ other-line (getD s at 0) (drop (at + 1 + 1) s) at h k m)
+  pub too-long : (getD s at 0 ≡ 80 → ⊥) → (getD s (at + 1) 0 ≡ 10 → ⊥) → noForm ≡ lineFront formOf (drop at s) at
+  too-long h k = sym (two-bytes (getD s at 0) (getD s (at + 1) 0) refl refl ∙ long-line (getD s at 0) (getD s (at + 1) 0) (drop (at + 1 + 1) s) at h k)
+
+  pub one-byte : getD s (at + 1) 0 ≡ 10 → formed (formOf (getD s at 0 ∷ [])) (at + 2) ≡ lineFront formOf (drop at s) at
+  one-byte newline = sym (two-bytes (getD s at 0) 10 refl newline ∙ one-byte-line (getD s at 0) (drop (at + 1 + 1) s) at)

@@ -12,7 +12,7 @@ use Rattle.parsing.specs.Grammar.{fields, letterOf, formOfFields, formOf
 use Rattle.newlines.specs.LineLength.{lineLength}
 use Rattle.parsing.specs.ReadForm.{Front, formed, formAt}
 use Rattle.parsing.specs.private.Parts.{lineFront, copiedOnto}
-use Rattle.parsing.proofs.FrontLaws.{front-closed, front-further-on, front-next}
+use Rattle.parsing.proofs.FrontLaws.{front-closed, front-offset, front-next}
 
 -- ---- the copy
 
@@ -73,10 +73,10 @@ module _ (s : List ℕ) (at : ℕ) where
     unfolding formAt lineFront
     found true e k =
         let i : at - 0 + 0 ≡ at = omega arith in
-        rw (k, copy-front (drop at s) (few-bytes (sym e))) (front-further-on formOf (drop at s) 0 (at - 0) ∙ ap (lineFront formOf (drop at s)) i)
+        rw (k, copy-front (drop at s) (few-bytes (sym e))) (front-offset formOf (drop at s) 0 (at - 0) ∙ ap (lineFront formOf (drop at s)) i)
     found false e k =
         let i : at - at + at ≡ at = omega arith in
-        rw k (front-further-on formOf (drop at s) at (at - at) ∙ ap (lineFront formOf (drop at s)) i)
+        rw k (front-offset formOf (drop at s) at (at - at) ∙ ap (lineFront formOf (drop at s)) i)
 
     next-fits : (few : Bool) → few ≡ ltb (length s) (at + 14) → p ≡ front few s (placeOf few at) (copyOf few s at) → at < 2 ^ 64 → length s < 2 ^ 63 → at - placeOf few at + p .next < 2 ^ 64
     next-fits true e k h n = rw (k, copy-front (drop at s) (few-bytes (sym e))) (few-next (drop at s) at (length s) (length-drop at s) h n)

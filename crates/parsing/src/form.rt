@@ -1,11 +1,11 @@
 // The form of a line, read in one pass over its bytes.
 ghost use mathlib.Core.Path.{_≡_};
-ghost use mathlib.Core.List.{_∷_};
+ghost use mathlib.Core.List.{[], _∷_};
 ghost use Prim.Native.Nat.{_+_, _≤_};
 ghost use lib.ListN.{length, drop};
 ghost use Rattle.text_numbers.specs.Numbers.{number};
 ghost use Rattle.parsing.specs.Grammar.{formOf};
-ghost use Rattle.parsing.specs.ReadForm.{reading};
+ghost use Rattle.parsing.specs.ReadForm.{formed, reading};
 ghost use Rattle.parsing.specs.private.Parts.{numberAt, secondForm, lineFront};
 use crate::LineForm;
 use text_numbers::NumberAt;
@@ -59,6 +59,22 @@ fn point_form(s: &[u8], at: usize) -> LineForm
     second(s, x, at + 1 + size)
 }
 
+// A line of one byte, with where the next line begins.
+fn letter_form(b: u8, next: usize) -> LineForm
+    ensures { λ r. ⌜ reading r ≡ formed (formOf (b ∷ [])) next ⌝ }
+{
+    if b == 66 {
+        return LineForm::Begin(next);
+    }
+    if b == 69 {
+        return LineForm::End(next);
+    }
+    if b == 65 {
+        return LineForm::Abandon(next);
+    }
+    LineForm::Other
+}
+
 // A line of the form at `at`, where as many bytes are left as the longest takes with its newline.
 pub(crate) fn whole_form(s: &[u8], at: usize) -> LineForm
     requires { ⌜ at + 14 ≤ length (now s) ⌝ }
@@ -71,14 +87,5 @@ pub(crate) fn whole_form(s: &[u8], at: usize) -> LineForm
     if s[at + 1] != 10 {
         return LineForm::Other;
     }
-    if b == 66 {
-        return LineForm::Begin(at + 2);
-    }
-    if b == 69 {
-        return LineForm::End(at + 2);
-    }
-    if b == 65 {
-        return LineForm::Abandon(at + 2);
-    }
-    LineForm::Other
+    letter_form(b, at + 2)
 }

@@ -7,7 +7,7 @@ ghost use Rattle.parsing.specs.ReadForm.{formAt, reading};
 use short::chosen_form;
 use short::copy_few;
 use short::few_left;
-use short::further_on;
+use short::offset_by;
 use short::place_of;
 
 // The forms of a line, each with where the next line begins.
@@ -29,5 +29,5 @@ pub fn line_form(s: &[u8], at: usize) -> LineForm
     copy_few(s, at, few, &mut line);
     let place = place_of(few, at);
     let form = chosen_form(s, &line, few, place);
-    further_on(form, at - place)
+    offset_by(form, at - place)
 }

@@ -56,7 +56,7 @@ pub(crate) fn chosen_form<'a>(s: &'a [u8], line: &'a [u8], few: bool, place: usi
 }
 
 // The form of the same line so many bytes further on.
-pub(crate) fn further_on(form: LineForm, by: usize) -> LineForm
+pub(crate) fn offset_by(form: LineForm, by: usize) -> LineForm
     requires { ⌜ by + reading form .next < 2 ^ 64 ⌝ }
     ensures { λ r. ⌜ reading r ≡ formed (reading form .form) (by + reading form .next) ⌝ }
 {

@@ -27,14 +27,14 @@ slice-aggregate-chosen-form c = search needs
 chosen-form-requires : tie.Need-chosen-form-requires
 chosen-form-requires c κs = chosen-room (chosen (c .before))
 
-sub-further-on : tie.Need-sub-further-on
-sub-further-on c = omega (arith, chosen-within (chosen (c .before .before)))
+sub-offset-by : tie.Need-sub-offset-by
+sub-offset-by c = omega (arith, chosen-within (chosen (c .before .before)))
 
-further-on-requires : tie.Need-further-on-requires
-further-on-requires c κs = omega (arith, chosen-next (chosen (c .before .before)) (c .chosen-form .ensures) (omega arith) (omega arith))
+offset-by-requires : tie.Need-offset-by-requires
+offset-by-requires c κs = omega (arith, chosen-next (chosen (c .before .before)) (c .chosen-form .ensures) (omega arith) (omega arith))
 
 returns : tie.Need-returns
-returns c = c .further-on .ensures ∙ chosen-line (chosen (c .before .before .before)) (c .before .chosen-form .ensures)
+returns c = c .offset-by .ensures ∙ chosen-line (chosen (c .before .before .before)) (c .before .chosen-form .ensures)
 
 pub line-form-spec : {M : Type 1} → statement M
 line-form-spec =
@@ -46,6 +46,6 @@ line-form-spec =
     place-of-requires
     slice-aggregate-chosen-form
     chosen-form-requires
-    sub-further-on
-    further-on-requires
+    sub-offset-by
+    offset-by-requires
     returns)

@@ -8,10 +8,21 @@ use mir.Syntax.{w32}
 use mir.Val.{toZ, ofZ}
 use Rattle.text_numbers.specs.Numbers.{number}
 use Rattle.parsing.specs.private.Parts.{secondForm, lineFront}
-use Rattle.parsing.proofs.Places.{point-no-tab, point-malformed-x, point-rest, size-small}
+use Rattle.parsing.proofs.Places.{TabNumber, point-no-tab, point-malformed-x, point-rest, size-small}
 use borrow.Author.Needs.{needs}
 use Rattle.parsing.proofs.form.point_form.Statement.{statement}
 use Rattle.parsing.proofs.form.point_form.Tie as tie
+
+-- ---- the places: the entry, past the tab, where x is read
+
+abbrev entry : tie.Else1 → tie.Start
+entry c = c .before .before .before
+
+abbrev x-read : tie.Else2 → tie.After-read-number
+x-read c = c .before .before
+
+x : (c : tie.After-read-number) → let s = entry (c .before) in TabNumber (s .args .s .now) (s .args .at) (c .read-number .result)
+x c = let s = entry (c .before) in record { room = omega (arith, s .pre); tab = c .before .if1 .left; number-is = c .read-number .ensures }
 
 shared-slice-read-if1 : tie.Need-shared-slice-read-if1
 shared-slice-read-if1 c = search needs
@@ -26,23 +37,25 @@ read-number-requires : tie.Need-read-number-requires
 read-number-requires c κs = search needs
 
 returns-2 : tie.Need-returns-2
-returns-2 c = let s = c .before .before .before .before .before .before in point-malformed-x (s .args .s .now) (s .args .at) (omega arith) (c .before .before .before .if1 .left) (c .before .before .read-number .result) (c .before .before .read-number .ensures) (c .if2 .taken)
+returns-2 c = point-malformed-x (x (c .before .before)) (c .if2 .taken)
 
 add-second : tie.Need-add-second
 add-second c = search needs
 
 add-second-2 : tie.Need-add-second-2
-add-second-2 c = let s = c .before .before .before .before .before .before in omega (arith, size-small (s .args .s .now) (s .args .at) (omega arith) (c .before .before .before .if1 .left) (c .before .before .read-number .result) (c .before .before .read-number .ensures))
+add-second-2 c = omega (arith, size-small (x (x-read c)))
 
 second-requires : tie.Need-second-requires
-second-requires c κs = let s = c .before .before .before .before .before .before in omega (arith, size-small (s .args .s .now) (s .args .at) (omega arith) (c .before .before .before .if1 .left) (c .before .before .read-number .result) (c .before .before .read-number .ensures))
+second-requires c κs = omega (arith, size-small (x (x-read c)))
 
 returns-3 : tie.Need-returns-3
 returns-3 c =
-    let s = c .before .before .before .before .before .before .before in
-    let n = c .before .before .before .read-number .result in
-    let x : toZ w32 (ofZ w32 (n .value)) ≡ n .value = search needs in
-    c .second .ensures ∙ (ap (λ (z : ℤ). lineFront (secondForm (number z)) (drop (s .args .at + 1 + n .size) (s .args .s .now)) (s .args .at + 1 + n .size)) x ∙ point-rest (s .args .s .now) (s .args .at) (omega arith) (c .before .before .before .before .if1 .left) (c .before .before .before .read-number .result) (c .before .before .before .read-number .ensures) (c .before .if2 .left))
+    let at-x = x-read (c .before) in
+    let s = entry (at-x .before) in
+    let n = at-x .read-number .result in
+    let next = s .args .at + 1 + n .size in
+    let x-kept : toZ w32 (ofZ w32 (n .value)) ≡ n .value = search needs in
+    c .second .ensures ∙ (ap (λ (z : ℤ). lineFront (secondForm (number z)) (drop next (s .args .s .now)) next) x-kept ∙ point-rest (x at-x) (c .before .if2 .left))
 
 pub point-form-spec : {M : Type 1} → statement M
 point-form-spec =

@@ -1,6 +1,5 @@
 -- `read_number` reads a minus and the four bytes behind it: what `number-at` says of the number there.
 use Prim.Native.Nat.{_≤_}
-use mathlib.Core.Path.{_∙_}
 use native.Mathlib.Omega.{arith}
 use lib.Dec.{eqb}
 use lib.ListN.{getD}
@@ -52,7 +51,7 @@ returns : tie.Need-returns
 returns c =
     let four-read = c .before in
     let s = four-read .before .before .before .before .before .before in
-    c .leading-number .ensures ∙ number-at (s .args .s .now) (s .args .at) (s .pre)
+    number-at (s .args .s .now) (s .args .at) (s .pre) (c .leading-number .ensures)
 
 pub read-number-spec : {M : Type 1} → statement M
 read-number-spec =

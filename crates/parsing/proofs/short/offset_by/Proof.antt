@@ -1,12 +1,12 @@
--- `further_on` adds to the place in each of the forms.
+-- `offset_by` adds to the place in each of the forms.
 use mathlib.Core.Path.{_≡_}
 use native.Mathlib.Omega.{arith}
 use mir.Syntax.{w32}
 use mir.Val.{toZ, ofZ}
 use Rattle.parsing.specs.ReadForm.{formed}
 use borrow.Author.Needs.{needs}
-use Rattle.parsing.proofs.short.further_on.Statement.{statement}
-use Rattle.parsing.proofs.short.further_on.Tie as tie
+use Rattle.parsing.proofs.short.offset_by.Statement.{statement}
+use Rattle.parsing.proofs.short.offset_by.Tie as tie
 
 enum-known-form : tie.Need-enum-known-form
 enum-known-form c = search needs
@@ -58,8 +58,8 @@ returns-5 : tie.Need-returns-5
 unfolding formed
 returns-5 c = rw (c .enum-told .given .1)
 
-pub further-on-spec : {M : Type 1} → statement M
-further-on-spec =
+pub offset-by-spec : {M : Type 1} → statement M
+offset-by-spec =
     tie.close
     (tie.spec
     enum-known-form
