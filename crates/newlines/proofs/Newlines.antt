@@ -25,6 +25,10 @@ line-within (b ∷ bs) = go (line-within bs) (eqb b 10)
     go h true = omega arith
     go h false = omega arith
 
+-- The line from i on ends where the line from `at` on does.
+abbrev pub SameEnd : List ℕ → ℕ → ℕ → Type 0
+SameEnd s at i = i + lineLength (drop i s) ≡ at + lineLength (drop at s)
+
 module _ (s : List ℕ) (i : ℕ) where
   pub stops : i < length s → getD s i 0 ≡ 10 → i ≡ i + lineLength (drop i s)
   unfolding lineLength

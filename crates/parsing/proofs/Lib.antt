@@ -1,10 +1,10 @@
-pub mod Tokens
-pub mod FrontLaws
-pub mod PointLines
-pub mod Fronts
-pub mod NumberReads
-pub mod Places
-pub mod ReadingLaw
-pub mod WorkedLines
-pub mod FormLength
-pub mod ShortLines
+mod Tokens
+mod FrontLaws
+mod PointLines
+mod Fronts
+mod NumberReads
+mod Places
+mod ReadingLaw
+mod WorkedLines
+mod FormLength
+mod ShortLines

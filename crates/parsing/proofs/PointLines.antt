@@ -16,19 +16,19 @@ use Rattle.parsing.proofs.Tokens.{Plain}
 -- ---- fields
 
 -- A line's fields: there is one at least.
-pub record Parted (bs : List ℕ) : Type 0 where
+pub record Separated (bs : List ℕ) : Type 0 where
   pub first : List ℕ
   pub more : List (List ℕ)
-  pub parts : fields bs ≡ first ∷ more
+  pub fields-are : fields bs ≡ first ∷ more
 
-pub parted : (bs : List ℕ) → Parted bs
+pub separated : (bs : List ℕ) → Separated bs
 unfolding fields withFirst
-parted [] = record { first = []; more = []; parts = refl }
-parted (b ∷ bs) = go (parted bs) (eqb b 9) refl
+separated [] = record { first = []; more = []; fields-are = refl }
+separated (b ∷ bs) = go (separated bs) (eqb b 9) refl
   where
-    go : Parted bs → (t : Bool) → eqb b 9 ≡ t → Parted (b ∷ bs)
-    go p true e = record { first = []; more = fields bs; parts = rw e }
-    go p false e = record { first = b ∷ p .first; more = p .more; parts = rw (e, p .parts) }
+    go : Separated bs → (t : Bool) → eqb b 9 ≡ t → Separated (b ∷ bs)
+    go p true e = record { first = []; more = fields bs; fields-are = rw e }
+    go p false e = record { first = b ∷ p .first; more = p .more; fields-are = rw (e, p .fields-are) }
 
 pub fields-none : fields [] ≡ [] ∷ []
 unfolding fields
@@ -51,15 +51,15 @@ fields-join (b ∷ ps) bs f fs p e = fields-byte b (ps ++ bs) (ps ++ f) fs (p .0
 one-field : (bs f : List ℕ) → fields bs ≡ f ∷ [] → length f ≡ length bs
 unfolding fields withFirst
 one-field [] f e = let k : [] ≡ f = cc in ap length (sym k)
-one-field (b ∷ bs) f e = go (parted bs) (one-field bs) (eqb b 9) refl
+one-field (b ∷ bs) f e = go (separated bs) (one-field bs) (eqb b 9) refl
   where
-    go : (p : Parted bs) → ((g : List ℕ) → fields bs ≡ g ∷ [] → length g ≡ length bs) → (t : Bool) → eqb b 9 ≡ t → length f ≡ suc (length bs)
-    go p i true q = let h : [] ∷ fields bs ≡ f ∷ [] = rw q at e in let k : p .first ∷ p .more ≡ [] = cc (p .parts) in let z : _≡_ {A = ℕ} 0 1 = cc in absurd (omega arith)
+    go : (p : Separated bs) → ((g : List ℕ) → fields bs ≡ g ∷ [] → length g ≡ length bs) → (t : Bool) → eqb b 9 ≡ t → length f ≡ suc (length bs)
+    go p i true q = let h : [] ∷ fields bs ≡ f ∷ [] = rw q at e in let k : p .first ∷ p .more ≡ [] = cc (p .fields-are) in let z : _≡_ {A = ℕ} 0 1 = cc in absurd (omega arith)
     go p i false q =
-        let h : (b ∷ p .first) ∷ p .more ≡ f ∷ [] = rw (q, p .parts) at e in
+        let h : (b ∷ p .first) ∷ p .more ≡ f ∷ [] = rw (q, p .fields-are) at e in
         let m : p .more ≡ [] = cc in
         let k : b ∷ p .first ≡ f = cc in
-        let j : length (p .first) ≡ length bs = i (p .first) (p .parts ∙ ap (λ (m : List (List ℕ)). p .first ∷ m) m) in
+        let j : length (p .first) ≡ length bs = i (p .first) (p .fields-are ∙ ap (λ (m : List (List ℕ)). p .first ∷ m) m) in
         omega (arith, ap length k)
 
 -- ---- what is no form whatever follows
@@ -93,12 +93,12 @@ long-field a b f (g ∷ fs) = not-p (a ∷ b ∷ f) g fs refl
 -- Two bytes, the first no P: none of the forms. After P comes a tab.
 pub second-byte : (a b : ℕ) (bs : List ℕ) → (a ≡ 80 → b ≡ 9 → ⊥) → formOf (a ∷ b ∷ bs) ≡ other
 unfolding isP
-second-byte a b bs h = no-form (a ∷ b ∷ bs) (go (parted bs) (eqb a 9) refl (eqb b 9) refl)
+second-byte a b bs h = no-form (a ∷ b ∷ bs) (go (separated bs) (eqb a 9) refl (eqb b 9) refl)
   where
-    go : (p : Parted bs) (t : Bool) → eqb a 9 ≡ t → (u : Bool) → eqb b 9 ≡ u → formOfFields (fields (a ∷ b ∷ bs)) ≡ other
-    go p true e u d = rw (eqb-true a 9 e, fields-tab (b ∷ bs), parted (b ∷ bs) .parts) (not-p [] (parted (b ∷ bs) .first) (parted (b ∷ bs) .more) refl)
-    go p false e true d = rw (eqb-true b 9 d, fields-byte a (9 ∷ bs) [] (fields bs) (eqb-false a 9 e) (fields-tab bs), p .parts) (not-p (a ∷ []) (p .first) (p .more) (ne-eqb a 80 (λ k. h k (eqb-true b 9 d))))
-    go p false e false d = rw (fields-byte a (b ∷ bs) (b ∷ p .first) (p .more) (eqb-false a 9 e) (fields-byte b bs (p .first) (p .more) (eqb-false b 9 d) (p .parts))) (long-field a b (p .first) (p .more))
+    go : (p : Separated bs) (t : Bool) → eqb a 9 ≡ t → (u : Bool) → eqb b 9 ≡ u → formOfFields (fields (a ∷ b ∷ bs)) ≡ other
+    go p true e u d = rw (eqb-true a 9 e, fields-tab (b ∷ bs), separated (b ∷ bs) .fields-are) (not-p [] (separated (b ∷ bs) .first) (separated (b ∷ bs) .more) refl)
+    go p false e true d = rw (eqb-true b 9 d, fields-byte a (9 ∷ bs) [] (fields bs) (eqb-false a 9 e) (fields-tab bs), p .fields-are) (not-p (a ∷ []) (p .first) (p .more) (ne-eqb a 80 (λ k. h k (eqb-true b 9 d))))
+    go p false e false d = rw (fields-byte a (b ∷ bs) (b ∷ p .first) (p .more) (eqb-false a 9 e) (fields-byte b bs (p .first) (p .more) (eqb-false b 9 d) (p .fields-are))) (long-field a b (p .first) (p .more))
 
 -- ---- x
 
@@ -114,11 +114,11 @@ module _ (ps : List ℕ) (plain : Plain ps) where
   -- x goes on with a byte that makes it malformed.
   pub x-over : (e : ℕ) (bs : List ℕ) → (e ≡ 9 → ⊥) → ((u : List ℕ) → numberOf (ps ++ e ∷ u) ≡ malformed) → formOf (80 ∷ 9 ∷ ps ++ e ∷ bs) ≡ other
   unfolding formOfFields isP
-  x-over e bs h over = no-form (80 ∷ 9 ∷ ps ++ e ∷ bs) (rw (point-fields (e ∷ bs) (e ∷ parted bs .first) (parted bs .more) (fields-byte e bs (parted bs .first) (parted bs .more) h (parted bs .parts))) (go (parted bs .more)))
+  x-over e bs h over = no-form (80 ∷ 9 ∷ ps ++ e ∷ bs) (rw (point-fields (e ∷ bs) (e ∷ separated bs .first) (separated bs .more) (fields-byte e bs (separated bs .first) (separated bs .more) h (separated bs .fields-are))) (go (separated bs .more)))
     where
-      go : (fs : List (List ℕ)) → formOfFields ((80 ∷ []) ∷ (ps ++ e ∷ parted bs .first) ∷ fs) ≡ other
+      go : (fs : List (List ℕ)) → formOfFields ((80 ∷ []) ∷ (ps ++ e ∷ separated bs .first) ∷ fs) ≡ other
       go [] = refl
-      go (y ∷ []) = rw (over (parted bs .first)) (malformed-point (numberOf y))
+      go (y ∷ []) = rw (over (separated bs .first)) (malformed-point (numberOf y))
       go (y ∷ z ∷ fs) = refl
 
   -- x ends with a tab: the form is that of the rest.
@@ -139,9 +139,9 @@ module _ (ps : List ℕ) (plain : Plain ps) where
 -- What follows x is no tab.
 pub rest-no-tab : (n : Number) (e : ℕ) (bs : List ℕ) → (e ≡ 9 → ⊥) → secondForm n (e ∷ bs) ≡ other
 unfolding secondForm afterX
-rest-no-tab n e bs h = rw (fields-byte e bs (parted bs .first) (parted bs .more) h (parted bs .parts)) (go (parted bs .more))
+rest-no-tab n e bs h = rw (fields-byte e bs (separated bs .first) (separated bs .more) h (separated bs .fields-are)) (go (separated bs .more))
   where
-    go : (fs : List (List ℕ)) → afterX n ((e ∷ parted bs .first) ∷ fs) ≡ other
+    go : (fs : List (List ℕ)) → afterX n ((e ∷ separated bs .first) ∷ fs) ≡ other
     go [] = refl
     go (y ∷ []) = refl
     go (y ∷ z ∷ fs) = refl
@@ -164,10 +164,10 @@ module _ (n : Number) (ps : List ℕ) (plain : Plain ps) where
   unfolding secondForm afterX
   y-over e bs over = go (eqb e 9) refl
     where
-      more : (fs : List (List ℕ)) → afterX n ([] ∷ (ps ++ e ∷ parted bs .first) ∷ fs) ≡ other
-      more [] = rw (over (parted bs .first)) (point-malformed n)
+      more : (fs : List (List ℕ)) → afterX n ([] ∷ (ps ++ e ∷ separated bs .first) ∷ fs) ≡ other
+      more [] = rw (over (separated bs .first)) (point-malformed n)
       more (y ∷ fs) = refl
 
       go : (t : Bool) → eqb e 9 ≡ t → afterX n (fields (9 ∷ ps ++ e ∷ bs)) ≡ other
-      go true k = rw (eqb-true e 9 k, rest-fields (9 ∷ bs) [] (fields bs) (fields-tab bs), parted bs .parts)
-      go false k = rw (rest-fields (e ∷ bs) (e ∷ parted bs .first) (parted bs .more) (fields-byte e bs (parted bs .first) (parted bs .more) (eqb-false e 9 k) (parted bs .parts))) (more (parted bs .more))
+      go true k = rw (eqb-true e 9 k, rest-fields (9 ∷ bs) [] (fields bs) (fields-tab bs), separated bs .fields-are)
+      go false k = rw (rest-fields (e ∷ bs) (e ∷ separated bs .first) (separated bs .more) (fields-byte e bs (separated bs .first) (separated bs .more) (eqb-false e 9 k) (separated bs .fields-are))) (more (separated bs .more))

@@ -1,16 +1,15 @@
--- `newline` meets its contract. The invariant is that of `newline_by_bytes`: the place and what is left of the line add up to the same throughout.
-use Prim.Native.Nat.{_+_, _-_}
-use mathlib.Core.Path.{_≡_, refl, _∙_}
+-- `newline` passes eight bytes at a time that have no newline: the line ends at the same place throughout.
+use Prim.Native.Nat.{_-_}
+use mathlib.Core.Path.{refl, _∙_}
 use native.Mathlib.Omega.{arith}
 use borrow.Author.Needs.{needs}
-use lib.ListN.{length, drop}
-use Rattle.newlines.specs.LineLength.{lineLength}
-use Rattle.newlines.proofs.Newlines.{ends, stops-among, goes-past}
+use lib.ListN.{length}
+use Rattle.newlines.proofs.Newlines.{SameEnd, ends, stops-among, goes-past}
 use Rattle.newlines.proofs.newline.Statement.{statement}
 use Rattle.newlines.proofs.newline.Tie as tie
 
 abbrev Inv-loop : tie.InvT-loop
-Inv-loop s at i₀ i = i + lineLength (drop i s) ≡ at + lineLength (drop at s)
+Inv-loop s at i₀ i = SameEnd s at i
 
 abbrev μ-loop : tie.MeasureT-loop
 μ-loop s at i₀ i = length s - i

@@ -1,15 +1,14 @@
--- `newline_by_bytes` passes bytes that are no newline: the place and what is left of the line add up to the same throughout.
-use Prim.Native.Nat.{_+_, _-_}
-use mathlib.Core.Path.{_≡_, refl, sym, _∙_}
+-- `newline_by_bytes` passes bytes that are no newline: the line ends at the same place throughout.
+use Prim.Native.Nat.{_-_}
+use mathlib.Core.Path.{refl, sym, _∙_}
 use native.Mathlib.Omega.{arith}
-use lib.ListN.{length, drop}
-use Rattle.newlines.specs.LineLength.{lineLength}
-use Rattle.newlines.proofs.Newlines.{stops, goes-on, ends}
+use lib.ListN.{length}
+use Rattle.newlines.proofs.Newlines.{SameEnd, stops, goes-on, ends}
 use Rattle.newlines.proofs.newline_by_bytes.Statement.{statement}
 use Rattle.newlines.proofs.newline_by_bytes.Tie as tie
 
 abbrev Inv-loop : tie.InvT-loop
-Inv-loop s at i₀ i = i + lineLength (drop i s) ≡ at + lineLength (drop at s)
+Inv-loop s at i₀ i = SameEnd s at i
 
 abbrev μ-loop : tie.MeasureT-loop
 μ-loop s at i₀ i = length s - i

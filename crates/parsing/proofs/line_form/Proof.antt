@@ -6,8 +6,19 @@ use Rattle.parsing.proofs.ShortLines.{Chosen, chosen-room, chosen-withi
 use Rattle.parsing.proofs.line_form.Statement.{statement}
 use Rattle.parsing.proofs.line_form.Tie as tie
 
-chosen : (c : tie.After-place-of) → let s = c .before .before .before .before .before .before in Chosen (s .args .s .now) (s .args .at) (c .before .before .before .before .few-left .result) (c .place-of .result) (c .before .before .copy-few .last .1 .1 .1 .0)
-chosen c = record { test = c .before .before .before .before .few-left .ensures; place-is = c .place-of .ensures; line-is = c .before .before .copy-few .ensures }
+-- ---- the places: the entry, where few bytes are found to be left or not, where they are copied, where the place is chosen
+
+abbrev entry : tie.After-few-left → tie.Start
+entry c = c .before .before
+
+abbrev tested : tie.After-copy-few → tie.After-few-left
+tested c = c .before .before
+
+abbrev copied : tie.After-place-of → tie.After-copy-few
+copied c = c .before .before
+
+chosen : (c : tie.After-place-of) → let t = tested (copied c) in let s = entry t in Chosen (s .args .s .now) (s .args .at) (t .few-left .result) (c .place-of .result) (copied c .copy-few .last .1 .1 .1 .0)
+chosen c = record { test = tested (copied c) .few-left .ensures; place-is = c .place-of .ensures; line-is = copied c .copy-few .ensures }
 
 few-left-requires : tie.Need-few-left-requires
 few-left-requires c κs = search needs
