@@ -1,11 +1,11 @@
 // The code on outlines. Here is what the call on a whole list and the calls of a walk share: the terms of an edge, and sums of totals.
 ghost use mathlib.Core.Path.{_≡_};
 ghost use mathlib.Core.Bool.{false};
-ghost use lib.IntN.{pos, _+ℤ_, _*ℤ_};
 ghost use Rattle.outline.specs.EdgeSums.{over, exceed, plus};
 ghost use Rattle.outline.specs.ListCall.{outside};
 ghost use Rattle.outline.specs.MapCall.{totalLimits};
 ghost use Rattle.outline.specs.WalkCalls.{edgeTotals};
+ghost use Rattle.outline_calls.specs.private.Terms.{firstTerm, secondTerm, mixedTerm};
 
 mod list;
 mod walk;
@@ -21,34 +21,31 @@ pub use walk::PointReply;
 pub use walk::end;
 pub use walk::point;
 
-// The term of X6 from x and p, of Y6 from y and q, with the cross product c.
 fn first_term(s: i64, t: i64, c: i64) -> i64
     requires { ⌜ over 2000 s ≡ false ⌝ }
     requires { ⌜ over 2000 t ≡ false ⌝ }
     requires { ⌜ over 8000000 c ≡ false ⌝ }
-    ensures { λ r. ⌜ r ≡ (s +ℤ t) *ℤ c ⌝ }
+    ensures { λ r. ⌜ r ≡ firstTerm s t c ⌝ }
 {
     (s + t) * c
 }
 
-// The term of XX12 from x and p, of YY12 from y and q.
 fn second_term(s: i64, t: i64, c: i64) -> i64
     requires { ⌜ over 2000 s ≡ false ⌝ }
     requires { ⌜ over 2000 t ≡ false ⌝ }
     requires { ⌜ over 8000000 c ≡ false ⌝ }
-    ensures { λ r. ⌜ r ≡ (s *ℤ s +ℤ s *ℤ t +ℤ t *ℤ t) *ℤ c ⌝ }
+    ensures { λ r. ⌜ r ≡ secondTerm s t c ⌝ }
 {
     (s * s + s * t + t * t) * c
 }
 
-// The term of XY24.
 fn mixed_term(x: i64, y: i64, p: i64, q: i64, c: i64) -> i64
     requires { ⌜ over 2000 x ≡ false ⌝ }
     requires { ⌜ over 2000 y ≡ false ⌝ }
     requires { ⌜ over 2000 p ≡ false ⌝ }
     requires { ⌜ over 2000 q ≡ false ⌝ }
     requires { ⌜ over 8000000 c ≡ false ⌝ }
-    ensures { λ r. ⌜ r ≡ (pos 2 *ℤ x *ℤ y +ℤ x *ℤ q +ℤ p *ℤ y +ℤ pos 2 *ℤ p *ℤ q) *ℤ c ⌝ }
+    ensures { λ r. ⌜ r ≡ mixedTerm x y p q c ⌝ }
 {
     (2 * x * y + x * q + p * y + 2 * p * q) * c
 }

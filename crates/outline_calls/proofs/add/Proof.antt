@@ -5,7 +5,8 @@ use Prim.Native.Nat.{_≤_, _^_}
 use lib.IntN.{ℤ, natAbs, _+ℤ_}
 use mir.Syntax.{w64}
 use mir.Val.{SFits, toZ, ofZ}
-use Rattle.integers.proofs.SignedCode.{code, run-fits, runs}
+use Rattle.integers.proofs.SignedCode.{code}
+use Rattle.integers.proofs.Bounded.{Bounded, fits, is}
 use Rattle.outline.specs.declared.Totals.{Totals}
 use Rattle.outline.specs.EdgeSums.{Fit}
 use Rattle.outline.specs.MapCall.{totalLimits}
@@ -19,11 +20,14 @@ abbrev read : ℤ → ℤ
 read a = toZ w64 (ofZ w64 a)
 
 module _ (a b : ℤ) (h : natAbs a ≤ 10 ^ 18) (k : natAbs b ≤ 10 ^ 18) where
+  abbrev given : Bounded
+  given = record { numbers = a ∷ b ∷ []; sizes = 10 ^ 18 ∷ 10 ^ 18 ∷ []; small = (h, (k, tt)) }
+
   sum-fits : SFits w64 (read a +ℤ read b)
-  sum-fits = run-fits (a ∷ b ∷ []) (10 ^ 18 ∷ 10 ^ 18 ∷ []) (h, (k, tt)) (search code depth 40) tt
+  sum-fits = fits given (search code depth 40) tt
 
   sum-is : read (read a +ℤ read b) ≡ a +ℤ b
-  sum-is = runs (a ∷ b ∷ []) (10 ^ 18 ∷ 10 ^ 18 ∷ []) (h, (k, tt)) (search code depth 40) tt
+  sum-is = is given (search code depth 40) tt
 
 module _ (start : tie.Start) where
   abbrev s : Totals

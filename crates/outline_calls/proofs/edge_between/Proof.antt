@@ -1,47 +1,99 @@
 -- `outline_calls::edge_between` meets its contract. The four coordinates are at most 2,000 in size, so every step fits 64 bits: a computed test.
 use mathlib.Core.Path.{_≡_, _∙_}
 use mathlib.Core.Bool.{false}
-use mathlib.Core.List.{List, [], _∷_}
-use Prim.Native.Nat.{ℕ, _<_, _^_}
-use lib.Dec.{T, leb, ltb}
-use lib.IntN.{ℤ}
+use mathlib.Core.List.{[], _∷_}
+use Prim.Native.Nat.{_<_, _^_}
+use lib.IntN.{ℤ, _-ℤ_, _*ℤ_}
 use lib.Signed.{mag}
-use mir.Syntax.{w64}
-use mir.Val.{SFits, toZ, ofZ}
+use mir.Syntax.{w32, w64}
+use mir.Val.{toZ, ofZ}
 use mir.Facts.{toZ-ofZ}
 use Rattle.integers.proofs.Bounds.{Within}
-use Rattle.integers.proofs.SignedCode.{Code, code, both, size, steps, run-fits, run-within, runs, plain}
-use Rattle.outline.specs.EdgeSums.{over}
-use Rattle.outline.proofs.Limits.{not-over, outside-not}
+use Rattle.integers.proofs.SignedCode.{code}
+use Rattle.integers.proofs.Bounded.{Bounded, fits, is}
+use Rattle.outline.specs.declared.Position.{Position}
+use Rattle.outline.specs.EdgeSums.{cross, x6, y6, xx12, xy24, yy12, over}
+use Rattle.outline.proofs.Limits.{never-over, outside-not}
 use Rattle.outline.proofs.TotalsLaws.{totals-equal}
+use Rattle.outline_calls.specs.private.Terms.{firstTerm, secondTerm, mixedTerm}
 use Rattle.outline_calls.proofs.edge_between.Statement.{statement}
 use Rattle.outline_calls.proofs.edge_between.Tie as tie
 
-abbrev limits : List ℕ
-limits = 2000 ∷ 2000 ∷ 2000 ∷ 2000 ∷ []
+-- A number of 64 bits as the code reads it from a local, a coordinate as it casts and reads it, and the cross product as it makes it of four.
+abbrev read : ℤ → ℤ
+read z = toZ w64 (ofZ w64 z)
+
+abbrev cast : ℤ → ℤ
+cast z = read (toZ w32 (ofZ w32 z))
+
+abbrev made : Position → Position → ℤ
+made a b = read (read (cast (a .x) *ℤ cast (b .y)) -ℤ read (cast (b .x) *ℤ cast (a .y)))
+
+-- A field that is the result r of a call.
+called : {r z v : ℤ} → z ≡ v → mag r < 2 ^ 63 → r ≡ z → read r ≡ v
+called f ok e = toZ-ofZ (record { sfits = ok }) ∙ e ∙ f
 
 module _ (s : tie.Start) where
-  abbrev ends : List ℤ
-  ends = s .args .a .x ∷ s .args .a .y ∷ s .args .b .x ∷ s .args .b .y ∷ []
+  abbrev a : Position
+  a = s .args .a
 
-  inside : Within ends limits
+  abbrev b : Position
+  b = s .args .b
+
+  inside : Within (a .x ∷ a .y ∷ b .x ∷ b .y ∷ []) (2000 ∷ 2000 ∷ 2000 ∷ 2000 ∷ [])
   inside =
-      let a = outside-not (s .args .a) (s .pre .0) in
-      let b = outside-not (s .args .b) (s .pre .1) in
-      (a .0, (a .1, (b .0, (b .1, tt))))
+      let from = outside-not a (s .pre .0) in
+      let to = outside-not b (s .pre .1) in
+      (from .0, (from .1, (to .0, (to .1, tt))))
 
-  step : {z : ℤ} (k : Code ends z) → T (both (ltb (size limits k) (2 ^ 63)) (steps limits k)) → SFits w64 z
-  step k t = run-fits ends limits inside k t
+  abbrev given : Bounded
+  given = record { numbers = a .x ∷ a .y ∷ b .x ∷ b .y ∷ []; sizes = 2000 ∷ 2000 ∷ 2000 ∷ 2000 ∷ []; small = inside }
 
-  within : (K : ℕ) {z : ℤ} (k : Code ends z) → T (both (leb (size limits k) K) (steps limits k)) → over K z ≡ false
-  within K {z} k t = not-over K z (run-within ends limits inside k t)
+  x-is : cast (a .x) ≡ a .x
+  x-is = is given (search code depth 40) tt
 
-  result : {z : ℤ} (k : Code ends z) → T (steps limits k) → z ≡ plain k
-  result k t = runs ends limits inside k t
+  y-is : cast (a .y) ≡ a .y
+  y-is = is given (search code depth 40) tt
 
-  -- a field that is the result r of a call
-  called : {r z : ℤ} → mag r < 2 ^ 63 → r ≡ z → (k : Code ends z) → T (steps limits k) → toZ w64 (ofZ w64 r) ≡ plain k
-  called ok e k t = toZ-ofZ (record { sfits = ok }) ∙ e ∙ result k t
+  p-is : cast (b .x) ≡ b .x
+  p-is = is given (search code depth 40) tt
+
+  q-is : cast (b .y) ≡ b .y
+  q-is = is given (search code depth 40) tt
+
+  c-is : made a b ≡ cross a b
+  c-is = is given (search code depth 40) tt
+
+  -- What the calls are promised to give, of the numbers as they are passed.
+  x6-is : firstTerm (cast (a .x)) (cast (b .x)) (made a b) ≡ x6 a b
+  x6-is i = firstTerm (x-is i) (p-is i) (c-is i)
+
+  y6-is : firstTerm (cast (a .y)) (cast (b .y)) (made a b) ≡ y6 a b
+  y6-is i = firstTerm (y-is i) (q-is i) (c-is i)
+
+  xx12-is : secondTerm (cast (a .x)) (cast (b .x)) (made a b) ≡ xx12 a b
+  xx12-is i = secondTerm (x-is i) (p-is i) (c-is i)
+
+  xy24-is : mixedTerm (cast (a .x)) (cast (a .y)) (cast (b .x)) (cast (b .y)) (made a b) ≡ xy24 a b
+  xy24-is i = mixedTerm (x-is i) (y-is i) (p-is i) (q-is i) (c-is i)
+
+  yy12-is : secondTerm (cast (a .y)) (cast (b .y)) (made a b) ≡ yy12 a b
+  yy12-is i = secondTerm (y-is i) (q-is i) (c-is i)
+
+  x-small : over 2000 (cast (a .x)) ≡ false
+  x-small = never-over given 2000 (search code depth 40) tt
+
+  y-small : over 2000 (cast (a .y)) ≡ false
+  y-small = never-over given 2000 (search code depth 40) tt
+
+  p-small : over 2000 (cast (b .x)) ≡ false
+  p-small = never-over given 2000 (search code depth 40) tt
+
+  q-small : over 2000 (cast (b .y)) ≡ false
+  q-small = never-over given 2000 (search code depth 40) tt
+
+  c-small : over 8000000 (made a b) ≡ false
+  c-small = never-over given 8000000 (search code depth 40) tt
 
 -- The code reads the coordinates into locals, two steps each: here each is read, and the way back to the start.
 abbrev at-x : tie.After-struct-told → tie.Start
@@ -58,19 +110,16 @@ abbrev at-q : tie.After-struct-told4 → tie.Start
 at-q c = at-p (c .before .before)
 
 first-term-requires : tie.Need-first-term-requires
-first-term-requires c κs = let s = at-q c in (within s 2000 (search code depth 40) tt, (within s 2000 (search code depth 40) tt, within s 8000000 (search code depth 40) tt))
+first-term-requires c κs = let s = at-q c in (x-small s, (p-small s, c-small s))
 
 first-term-requires-2 : tie.Need-first-term-requires-2
-first-term-requires-2 c κs = let s = at-q (c .before) in (within s 2000 (search code depth 40) tt, (within s 2000 (search code depth 40) tt, within s 8000000 (search code depth 40) tt))
+first-term-requires-2 c κs = let s = at-q (c .before) in (y-small s, (q-small s, c-small s))
 
 second-term-requires : tie.Need-second-term-requires
 second-term-requires c κs = first-term-requires (c .before .before) κs
 
 mixed-term-requires : tie.Need-mixed-term-requires
-mixed-term-requires c κs =
-    let x = first-term-requires (c .before .before .before) κs in
-    let y = first-term-requires-2 (c .before .before) κs in
-    (x .0, (y .0, (x .1 .0, (y .1 .0, x .1 .1))))
+mixed-term-requires c κs = let s = at-q (c .before .before .before) in (x-small s, (y-small s, (p-small s, (q-small s, c-small s))))
 
 second-term-requires-2 : tie.Need-second-term-requires-2
 second-term-requires-2 c κs = first-term-requires-2 (c .before .before .before) κs
@@ -83,24 +132,24 @@ returns c =
     let at-x6 = at-y6 .before in
     let s = at-q (at-x6 .before) in
     totals-equal
-    (result s (search code depth 40) tt)
-    (called s (at-x6 .first-term .ok) (at-x6 .first-term .ensures) (search code depth 40) tt)
-    (called s (at-y6 .first-term2 .ok) (at-y6 .first-term2 .ensures) (search code depth 40) tt)
-    (called s (at-xx12 .second-term .ok) (at-xx12 .second-term .ensures) (search code depth 40) tt)
-    (called s (at-xy24 .mixed-term .ok) (at-xy24 .mixed-term .ensures) (search code depth 60 fits 20000) tt)
-    (called s (c .second-term2 .ok) (c .second-term2 .ensures) (search code depth 40) tt)
+    (c-is s)
+    (called (x6-is s) (at-x6 .first-term .ok) (at-x6 .first-term .ensures))
+    (called (y6-is s) (at-y6 .first-term2 .ok) (at-y6 .first-term2 .ensures))
+    (called (xx12-is s) (at-xx12 .second-term .ok) (at-xx12 .second-term .ensures))
+    (called (xy24-is s) (at-xy24 .mixed-term .ok) (at-xy24 .mixed-term .ensures))
+    (called (yy12-is s) (c .second-term2 .ok) (c .second-term2 .ensures))
 
 pub edge-between-spec : {M : Type 1} → statement M
 edge-between-spec =
     tie.close
     (tie.spec
-    (λ c. step (at-x c) (search code depth 40) tt)
-    (λ c. step (at-y c) (search code depth 40) tt)
-    (λ c. step (at-p c) (search code depth 40) tt)
-    (λ c. step (at-q c) (search code depth 40) tt)
-    (λ c. step (at-q c) (search code depth 40) tt)
-    (λ c. step (at-q c) (search code depth 40) tt)
-    (λ c. step (at-q c) (search code depth 40) tt)
+    (λ c. fits (given (at-x c)) (search code depth 40) tt)
+    (λ c. fits (given (at-y c)) (search code depth 40) tt)
+    (λ c. fits (given (at-p c)) (search code depth 40) tt)
+    (λ c. fits (given (at-q c)) (search code depth 40) tt)
+    (λ c. fits (given (at-q c)) (search code depth 40) tt)
+    (λ c. fits (given (at-q c)) (search code depth 40) tt)
+    (λ c. fits (given (at-q c)) (search code depth 40) tt)
     first-term-requires
     first-term-requires-2
     second-term-requires
