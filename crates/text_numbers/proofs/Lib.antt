@@ -2,3 +2,4 @@ pub mod LeadingDigits
 mod DigitCases
 pub mod Signs
 mod SignedDigits
+mod WorkedNumbers
