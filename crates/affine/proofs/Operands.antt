@@ -7,7 +7,8 @@ use Rattle.integers.proofs.SignedCode.{Code, both, size, steps}
 use Rattle.integers.proofs.SizedNumbers.{Sized, sized, numbers, bounds, at-most}
 use Rattle.outline.specs.declared.Totals.{Totals}
 use Rattle.outline.specs.declared.AffineMap.{AffineMap}
-use Rattle.outline.specs.EdgeSums.{Fit, outlineBounds}
+use Rattle.outline.specs.EdgeSums.{outlineBounds}
+use Rattle.outline.specs.private.Fit.{Fit}
 use Rattle.affine.specs.private.Limits.{AtMost, RowWithin, MapWithin}
 
 abbrev pub totals : {t : Totals} → Fit outlineBounds t → List Sized

@@ -1,7 +1,8 @@
 // The map call on six totals: document 01, "Maps", with refusals 3, 4 and 5.
 ghost use mathlib.Core.Path.{_≡_};
 ghost use lib.IntN.{_+ℤ_, _*ℤ_};
-ghost use Rattle.outline.specs.EdgeSums.{over, exceed, Fit, outlineBounds};
+ghost use Rattle.outline.specs.EdgeSums.{over, exceed, outlineBounds};
+ghost use Rattle.outline.specs.private.Fit.{Fit};
 ghost use Rattle.outline.specs.MapCall.{disallowed, determinant, firstMoment, secondMoment, mixedMoment, brackets, scaled, totalLimit, totalLimits, mapCall};
 ghost use Rattle.affine.specs.Answer.{reading};
 ghost use Rattle.affine.specs.private.Limits.{AtMost, RowWithin, MapWithin};

@@ -1,4 +1,4 @@
-// A walk that the caller holds and lends: the one call on it that is made for every point. Thin: the walk is copied out, `point` is called, and what
+// A walk that the caller holds and lends: the one call on it that is made for every point. The walk is copied out, `point` is called, and what
 // it leaves is stored back.
 ghost use mathlib.Core.Path.{_≡_};
 ghost use Rattle.outline.specs.WalkCalls.{pointCall};

@@ -18,10 +18,11 @@ use Rattle.integers.proofs.Bounded.{Bounded, at-most}
 use Rattle.outline.specs.declared.Position.{Position}
 use Rattle.outline.specs.declared.Totals.{Totals}
 use Rattle.outline.specs.declared.Sizes.{Sizes}
-use Rattle.outline.specs.EdgeSums.{Term, a2, x6, y6, xx12, xy24, yy12, six, openEdges, edges, sumOver, totalsOver, outlineTotals, over, exceed, Fit, outlineBounds}
+use Rattle.outline.specs.EdgeSums.{Term, a2, x6, y6, xx12, xy24, yy12, six, openEdges, edges, sumOver, totalsOver, outlineTotals, over, exceed, outlineBounds}
 use Rattle.outline.specs.ListCall.{accepted, refused, points, numbers, outside, anyOutside, wrongLength, listCall}
 use Rattle.outline.specs.MapCall.{totalLimits}
 use Rattle.outline.specs.WalkCalls.{share}
+use Rattle.outline.specs.private.Fit.{Fit}
 use Rattle.integers.proofs.Flags.{or-left, or-right, neither, none-of-six}
 use Rattle.outline.proofs.Every.{All, all-append, all-take}
 use Rattle.outline.proofs.EdgeSumLaws.{coordinates, path, around}

@@ -1,5 +1,5 @@
 -- Document 01, "The six totals of an outline": the edge terms, the edges of an outline, and the sums over them.
-use Prim.Native.Nat.{ℕ, _≤_}
+use Prim.Native.Nat.{ℕ}
 use mathlib.Core.Bool.{Bool, _||_}
 use mathlib.Core.List.{List, [], _∷_, _++_}
 use lib.Dec.{ltb}
@@ -112,15 +112,6 @@ over n z = ltb n (natAbs z)
 -- Some total is greater in size than its bound.
 unfoldable pub exceed : Sizes → Totals → Bool
 exceed b t = over (b .a2) (t .a2) || over (b .x6) (t .x6) || over (b .y6) (t .y6) || over (b .xx12) (t .xx12) || over (b .xy24) (t .xy24) || over (b .yy12) (t .yy12)
-
--- Each total is at most its bound in size.
-pub record Fit (b : Sizes) (t : Totals) : Type 0 where
-  pub a2 : natAbs (t .a2) ≤ b .a2
-  pub x6 : natAbs (t .x6) ≤ b .x6
-  pub y6 : natAbs (t .y6) ≤ b .y6
-  pub xx12 : natAbs (t .xx12) ≤ b .xx12
-  pub xy24 : natAbs (t .xy24) ≤ b .xy24
-  pub yy12 : natAbs (t .yy12) ≤ b .yy12
 
 -- The outline bounds.
 abbrev pub outlineBounds : Sizes

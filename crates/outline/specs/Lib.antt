@@ -9,3 +9,4 @@ pub mod PiecesAddUp
 pub mod WalkedOutline
 pub mod EveryOutline
 pub mod SheetSums
+pub mod private

@@ -2,7 +2,7 @@
 use mathlib.Core.Path.{_≡_, refl, sym, ap}
 use mathlib.Core.Bool.{false}
 use mathlib.Core.List.{List, [], _∷_, _++_}
-use Prim.Native.Nat.{ℕ, zero, suc, _+_, _*_, _-_, _≤_, _<_}
+use Prim.Native.Nat.{ℕ, zero, suc, _+_, _-_, _≤_, _<_}
 use native.Mathlib.Nat.{not-suc-le-zero, le-of-suc-le-suc}
 use native.Mathlib.Numerals.{add-one}
 use native.Mathlib.Omega.{arith}
@@ -36,17 +36,11 @@ sum-within zs k {t} o h e = let few = o .outline .few in rw e (share-within k (t
 
 -- ---- the copy to the front of a buffer
 
-copied-one : (s d : List ℤ) (i : ℕ) → i < length s → i < length d → set (take i s ++ drop i d) i (getD s i (pos 0)) ≡ take (suc i) s ++ drop (suc i) d
+pub copied-one : (s d : List ℤ) (i : ℕ) → i < length s → i < length d → set (take i s ++ drop i d) i (getD s i (pos 0)) ≡ take (suc i) s ++ drop (suc i) d
 copied-one [] d i h k = absurd (not-suc-le-zero h)
 copied-one (x ∷ s) [] i h k = absurd (not-suc-le-zero k)
 copied-one (x ∷ s) (y ∷ d) zero h k = refl
 copied-one (x ∷ s) (y ∷ d) (suc i) h k = ap {B = List ℤ} (λ l. x ∷ l) (copied-one s d i (le-of-suc-le-suc h) (le-of-suc-le-suc k))
-
--- The buffer b holds the first k pairs of s before what was in d, and the numbers x and y are the next pair.
-pub copied-pair : (s d : List ℤ) (k : ℕ) {b : List ℤ} {x y : ℤ} → 2 * k + 1 < length s → length s ≤ length d → b ≡ take (2 * k) s ++ drop (2 * k) d → x ≡ getD s (2 * k) (pos 0) → y ≡ getD s (2 * k + 1) (pos 0) → set (set b (2 * k) x) (2 * k + 1) y ≡ take (2 * (k + 1)) s ++ drop (2 * (k + 1)) d
-copied-pair s d k h r e f g =
-    let next : 2 * (k + 1) ≡ suc (suc (2 * k)) = omega arith in
-    rw (e, f, g, copied-one s d (2 * k) (omega arith) (omega arith), add-one (2 * k), next) (copied-one s d (suc (2 * k)) (omega arith) (omega arith))
 
 -- ---- the sum of the edges
 

@@ -1,4 +1,4 @@
--- What walks and sheets say of themselves where 28 does not refuse them: a walk's ends can be joined, and totals can be added.
+-- What is known of walks and sheets that 28 does not refuse: a walk's ends can be joined, and totals can be added.
 use mathlib.Core.Path.{_≡_}
 use mathlib.Core.Bool.{Bool, true, false, not, _&&_, _||_}
 use Prim.Native.Nat.{ℕ, _+_, _≤_}
@@ -9,21 +9,23 @@ use Rattle.integers.proofs.Order.{natAbs-add}
 use Rattle.outline.specs.declared.Totals.{Totals}
 use Rattle.outline.specs.declared.Walk.{Walk}
 use Rattle.outline.specs.declared.Sheet.{Sheet}
-use Rattle.outline.specs.EdgeSums.{plus, exceed, Fit}
+use Rattle.outline.specs.EdgeSums.{plus, exceed}
 use Rattle.outline.specs.ListCall.{outside}
 use Rattle.outline.specs.MapCall.{totalLimits}
 use Rattle.outline.specs.WalkCalls.{share, closedTotals, impossibleWalk, impossibleSheet}
+use Rattle.outline.specs.private.Fit.{Fit}
 use Rattle.integers.proofs.Flags.{or-left, or-right}
 use Rattle.outline.proofs.Limits.{exceed-fit}
 use Rattle.outline_calls.proofs.Sizes.{share-within, edge-fit}
 
-pub record SoundOpen (w : Walk) : Type 0 where
+-- Of an open walk.
+pub record PossibleOpen (w : Walk) : Type 0 where
   pub count : w .count ≤ 1024
   pub first : (w .count ≡ 0 → ⊥) → outside (w .first) ≡ false
   pub last : (w .count ≡ 0 → ⊥) → outside (w .last) ≡ false
   pub totals : Fit (share (w .count)) (w .totals)
 
-pub possible-open : (w : Walk) → impossibleWalk w ≡ false → w .is_open ≡ true → SoundOpen w
+pub possible-open : (w : Walk) → impossibleWalk w ≡ false → w .is_open ≡ true → PossibleOpen w
 unfolding impossibleWalk
 possible-open w e o =
     let many : Bool = ltb 1024 (w .count) in
@@ -49,10 +51,10 @@ plus-fit m n s t f g =
       yy12 = omega (arith, natAbs-add (s .yy12) (t .yy12));
     }
 
-pub walked-within : (w : Walk) → SoundOpen w → exceed totalLimits (w .totals) ≡ false
+pub walked-within : (w : Walk) → PossibleOpen w → exceed totalLimits (w .totals) ≡ false
 walked-within w o = share-within (w .count) (w .totals) (omega (arith, o .count)) (o .totals)
 
-pub closed-within : (w : Walk) → SoundOpen w → (w .count ≡ 0 → ⊥) → exceed totalLimits (closedTotals w) ≡ false
+pub closed-within : (w : Walk) → PossibleOpen w → (w .count ≡ 0 → ⊥) → exceed totalLimits (closedTotals w) ≡ false
 closed-within w o h = share-within (w .count + 1) (closedTotals w) (omega (arith, o .count)) (plus-fit (w .count) 1 (w .totals) _ (o .totals) (edge-fit (w .last) (w .first) (o .last h) (o .first h)))
 
 pub sheet-within : (s : Sheet) → impossibleSheet s ≡ false → exceed totalLimits (s .totals) ≡ false

@@ -5,10 +5,11 @@ use Prim.Native.Nat.{ℕ, _≤_}
 use native.Mathlib.Omega.{arith}
 use Rattle.outline.specs.declared.Position.{Position}
 use Rattle.outline.specs.declared.Totals.{Totals}
-use Rattle.outline.specs.EdgeSums.{exceed, Fit}
+use Rattle.outline.specs.EdgeSums.{exceed}
 use Rattle.outline.specs.ListCall.{outside}
 use Rattle.outline.specs.MapCall.{totalLimits}
 use Rattle.outline.specs.WalkCalls.{edgeTotals, share}
+use Rattle.outline.specs.private.Fit.{Fit}
 use Rattle.outline.proofs.Limits.{outside-not, fit-exceed, six-fit}
 
 -- What 1,025 edges add at most is within the limits of a sheet's total.

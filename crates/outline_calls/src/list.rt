@@ -2,7 +2,7 @@
 ghost use mathlib.Core.Path.{_≡_};
 ghost use mathlib.Core.Bool.{false};
 ghost use mathlib.Core.List.{_++_};
-ghost use Prim.Native.Nat.{_%_, _≤_};
+ghost use Prim.Native.Nat.{_≤_};
 ghost use lib.ListN.{length, drop};
 ghost use Rattle.outline.specs.EdgeSums.{outlineTotals};
 ghost use Rattle.outline.specs.ListCall.{points as pointsOf, wrongLength, anyOutside, listCall};
@@ -35,19 +35,14 @@ impl OutlineAnswer {
 
 // The points to the front of the buffer; what lies behind them stays.
 fn copy_points(points: &[i32], buffer: &mut [i32])
-    requires { ⌜ length (now points) % 2 ≡ 0 ⌝ }
     requires { ⌜ length (now points) ≤ length (now buffer) ⌝ }
     ensures { λ _. ⌜ now (buffer .exit) ≡ now (points .entry) ++ drop (length (now (points .entry))) (now (buffer .entry)) ⌝ }
 {
-    let pairs = points.len() / 2;
-    let mut pair = 0;
-    while pair < pairs {
-        let p = position_at(points, pair);
-        let x = p.x;
-        let y = p.y;
-        buffer[2 * pair] = x;
-        buffer[2 * pair + 1] = y;
-        pair += 1;
+    let n = points.len();
+    let mut i = 0;
+    while i < n {
+        buffer[i] = points[i];
+        i += 1;
     }
 }
 

@@ -14,8 +14,9 @@ use Rattle.integers.proofs.SignedCode.{sfits-natAbs}
 use Rattle.outline.specs.declared.Totals.{Totals}
 use Rattle.outline.specs.declared.Sizes.{Sizes}
 use Rattle.outline.specs.declared.Sheet.{Sheet}
-use Rattle.outline.specs.EdgeSums.{exceed, Fit}
+use Rattle.outline.specs.EdgeSums.{exceed}
 use Rattle.outline.specs.MapCall.{totalLimits}
+use Rattle.outline.specs.private.Fit.{Fit}
 use Rattle.outline.proofs.Limits.{exceed-fit}
 use Rattle.centroid.specs.Centroid.{CentroidOutcome, isCentre, firstCentre, centre, centred, signedBy, outlineCentroidCall}
 use Rattle.printing.specs.Output.{digits, decimal, signed, field, totalsText, centreText, outlineLine, refusalLine, sheetLine}

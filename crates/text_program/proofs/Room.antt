@@ -14,10 +14,11 @@ use Rattle.outline.specs.declared.Position.{Position}
 use Rattle.outline.specs.declared.Totals.{Totals}
 use Rattle.outline.specs.declared.Walk.{Walk}
 use Rattle.outline.specs.declared.Sheet.{Sheet}
-use Rattle.outline.specs.EdgeSums.{plus, exceed, Fit}
+use Rattle.outline.specs.EdgeSums.{plus, exceed}
 use Rattle.outline.specs.ListCall.{outside}
 use Rattle.outline.specs.MapCall.{totalLimits}
 use Rattle.outline.specs.WalkCalls.{share, addedTotals, impossibleWalk, impossibleSheet, WalkOutcome, EndOutcome, beginCall, pointCall, endCall, abandonCall}
+use Rattle.outline.specs.private.Fit.{Fit}
 use Rattle.outline.proofs.Limits.{exceed-fit}
 use Rattle.text_program.specs.declared.State.{State}
 use Rattle.parsing.specs.Grammar.{Form, begin, end, abandon, point, other, formOf}

@@ -1,4 +1,4 @@
-// The state of a walk: what a new walk and a new sheet are, the calls that only open a walk or give it up, by value, and the tests of refusal 28. None adds an edge.
+// The state of a walk: how a walk is made, what a new sheet is, the calls that only open a walk or give it up, by value, and the tests of refusal 28. None adds an edge.
 mod handed_in;
 
 ghost use mathlib.Core.Path.{_≡_};

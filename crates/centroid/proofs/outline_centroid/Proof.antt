@@ -14,7 +14,8 @@ use Rattle.integers.proofs.Flags.{tells}
 use Rattle.integers.proofs.SignedCode.{code}
 use Rattle.integers.proofs.SizedNumbers.{Sized, sized, fits, is-plain}
 use Rattle.outline.specs.declared.Totals.{Totals}
-use Rattle.outline.specs.EdgeSums.{exceed, Fit}
+use Rattle.outline.specs.EdgeSums.{exceed}
+use Rattle.outline.specs.private.Fit.{Fit}
 use Rattle.outline.specs.MapCall.{totalLimit, totalLimits}
 use Rattle.outline.proofs.Limits.{exceed-fit}
 use Rattle.limits.proofs.Fields.{TotalsFit}

@@ -8,8 +8,8 @@ use mir.Val.{SFits, toZ, ofZ}
 use Rattle.integers.proofs.SignedCode.{code}
 use Rattle.integers.proofs.Bounded.{Bounded, fits, is}
 use Rattle.outline.specs.declared.Totals.{Totals}
-use Rattle.outline.specs.EdgeSums.{Fit}
 use Rattle.outline.specs.MapCall.{totalLimits}
+use Rattle.outline.specs.private.Fit.{Fit}
 use Rattle.outline.proofs.Limits.{exceed-fit}
 use Rattle.outline.proofs.TotalsLaws.{totals-equal}
 use Rattle.outline_calls.proofs.add.Statement.{statement}

@@ -5,7 +5,7 @@ use native.Mathlib.Omega.{arith}
 use borrow.Author.Needs.{needs}
 use lib.IntN.{pos}
 use lib.ListN.{length, length-append}
-use Rattle.outline.specs.EdgeSums.{Fit}
+use Rattle.outline.specs.private.Fit.{Fit}
 use Rattle.printing.specs.Output.{field, figuresText, outlineLine}
 use Rattle.printing.proofs.LineLengths.{wide, fit-wide, outline-length}
 use Rattle.printing.specs.Buffer.{Written}

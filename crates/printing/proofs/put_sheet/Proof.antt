@@ -7,7 +7,7 @@ use lib.IntN.{pos}
 use lib.ListN.{length, length-append}
 use mir.Syntax.{w32}
 use mir.Val.{Fits}
-use Rattle.outline.specs.EdgeSums.{Fit}
+use Rattle.outline.specs.private.Fit.{Fit}
 use Rattle.printing.specs.Output.{field, figuresText, sheetLine}
 use Rattle.printing.proofs.LineLengths.{wide, fit-wide, sheet-length}
 use Rattle.printing.specs.Buffer.{Written}

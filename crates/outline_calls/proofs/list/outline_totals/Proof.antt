@@ -45,7 +45,7 @@ copy-points-requires : tie.Need-copy-points-requires
 copy-points-requires c κs =
     let o = outline (c .before) in
     let zs = c .before .before .before .before .before .args .points .now in
-    (omega (arith, o .even), omega (arith, o .outline .few, length-points zs))
+    omega (arith, o .even, o .outline .few, length-points zs)
 
 -- The first numbers of the buffer are the list.
 held : (c : tie.After-copy-points) → let zs = c .before .before .before .before .before .before .args .points .now in take (length zs) (c .copy-points .last .1 .0) ≡ zs

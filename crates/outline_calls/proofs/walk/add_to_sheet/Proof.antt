@@ -1,4 +1,4 @@
--- `outline_calls::walk::add_to_sheet` meets its contract: possible totals can be added, and of the tests only that of 26 is left.
+-- `outline_calls::walk::add_to_sheet` meets its contract: the totals of a walk and a sheet that 28 does not refuse can be added, and of the tests only that of 26 is left.
 use mathlib.Core.Path.{_≡_, _∙_, ap}
 use Prim.Native.Nat.{_+_}
 use native.Mathlib.Omega.{arith}

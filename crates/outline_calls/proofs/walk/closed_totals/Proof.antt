@@ -1,4 +1,4 @@
--- `outline_calls::walk::closed_totals` meets its contract: a possible walk's ends can be joined.
+-- `outline_calls::walk::closed_totals` meets its contract: the ends of a walk that 28 does not refuse can be joined.
 use mathlib.Core.Path.{_≡_}
 use native.Mathlib.Omega.{arith}
 use Rattle.outline_calls.proofs.PossibleWalks.{possible-open, walked-within}

@@ -1,4 +1,4 @@
--- `outline_calls::walk::extended_walk` meets its contract: the edge from a possible walk's last point to a point within the limits can be added.
+-- `outline_calls::walk::extended_walk` meets its contract: the edge from the last point of a walk that 28 does not refuse to a point within the limits can be added.
 use mathlib.Core.Path.{_∙_, ap}
 use Prim.Native.Nat.{_+_}
 use borrow.Author.Needs.{needs}
