@@ -1,10 +1,11 @@
-// The calls on outlines and on their totals, each answered as a number and a buffer: 0 or the number of a refusal, with zeros for totals or centre.
+// What an answer of a call on outlines tells: its totals, zeros with every refusal; and three of the calls answered as a number and a buffer.
 ghost use mathlib.Core.Path.{_≡_};
 ghost use mathlib.Core.List.{[], _∷_};
 ghost use Rattle.outline.specs.EdgeSums.{zeros};
 ghost use Rattle.outline.specs.ListCall.{listCall};
 ghost use Rattle.outline.specs.MapCall.{mapCall};
 ghost use Rattle.outline_calls.specs.ListAnswer.{reading as listReading};
+ghost use Rattle.outline_calls.specs.WalkAnswers.{endTotals};
 ghost use Rattle.affine.specs.Answer.{reading as mapReading};
 ghost use Rattle.centroid.specs.Centroid.{outlineCentroidCall};
 ghost use Rattle.centroid.specs.Answers.{reading as centreReading};
@@ -14,6 +15,7 @@ use centroid::CentroidAnswer;
 use outline::AffineMap;
 use outline::Totals;
 use outline::ZEROS;
+use outline_calls::EndAnswer;
 use outline_calls::OutlineAnswer;
 use replies::put_values;
 
@@ -44,6 +46,20 @@ pub fn map_totals(answer: MapAnswer) -> Totals
         MapAnswer::MapOutsideLimits => no_totals(),
         MapAnswer::TotalsOutsideBounds => no_totals(),
         MapAnswer::ResultOutsideLimits => no_totals(),
+    }
+}
+
+// The totals that an answer of the end of a walk tells.
+pub fn end_totals(answer: EndAnswer) -> Totals
+    ensures { λ r. ⌜ r ≡ endTotals answer ⌝ }
+{
+    match answer {
+        EndAnswer::Accepted(totals) => totals,
+        EndAnswer::Impossible => no_totals(),
+        EndAnswer::NotOpen => no_totals(),
+        EndAnswer::TooFewPoints => no_totals(),
+        EndAnswer::SheetFull => no_totals(),
+        EndAnswer::SheetExceeded => no_totals(),
     }
 }
 

@@ -10,12 +10,6 @@ use Rattle.outline.specs.declared.Walk.{Walk}
 use Rattle.outline.specs.ListCall.{points}
 use Rattle.outline.specs.WalkCalls.{EndOutcome, origin, closed, newSheet, beginCall, pointCall, endCall}
 use Rattle.cells.specs.declared.Run.{Run}
-use Rattle.cells.specs.RegionCall.{RegionOutcome}
-use Rattle.worked_plots.specs.declared.figures.RegionFigures.{RegionFigures}
-
--- What is printed of a region's answer, as an outcome of the call.
-abbrev pub regionOutcome : RegionFigures → RegionOutcome
-regionOutcome f = record { number = f .number; index = f .index; sums = f .sums }
 
 -- ---- the square with corners ±2,000
 

@@ -1,20 +1,16 @@
 // Document 01, "Plots worked by hand": the plots that carry no ✱, run through the proved functions. Each prints a row: label, what was asked, number of
-// the refusal (0 where accepted) and values, parted by tabs, as second/worked.py prints them too. The plots marked ✱ are specs/Rows.antt.
+// the refusal (0 where accepted) and values, parted by tabs, as second/worked.py prints them too. The plots marked ✱ are rows of worked_rows/specs/Rows.antt.
 ghost use Prim.Native.Nat.{_≤_};
 
-mod figures;
 mod plots;
 mod show;
 
-use figures::end_number;
-use figures::end_totals;
-use figures::list_number;
-use figures::list_totals;
-use figures::map_number;
-use figures::map_totals;
-use figures::point_number;
-use figures::region_figures;
 use outline::Position;
+use outline_replies::end_totals;
+use outline_replies::list_totals;
+use outline_replies::map_totals;
+use region_replies::region_index;
+use region_replies::region_sums;
 use show::end_row;
 use show::show_coordinate;
 use show::show_integer;
@@ -28,7 +24,7 @@ fn limit_row(x: i32) {
     let answer = plots::triangle_totals(x);
     show_label(b"limit");
     show_coordinate(x);
-    show_natural(list_number(answer));
+    show_natural(answer.number() as u64);
     show_totals(list_totals(answer));
     end_row();
 }
@@ -42,7 +38,7 @@ fn point_row(p: Position) {
     show_label(b"point-1025");
     show_coordinate(p.x);
     show_coordinate(p.y);
-    show_natural(point_number(answer));
+    show_natural(answer.number() as u64);
     show_natural(walk.count as u64);
     show_totals(totals);
     end_row();
@@ -55,7 +51,7 @@ fn double_row(rounds: usize)
     let answer = plots::doubled_square(rounds);
     show_label(b"double");
     show_natural(rounds as u64);
-    show_natural(map_number(answer));
+    show_natural(answer.number() as u64);
     show_totals(map_totals(answer));
     end_row();
 }
@@ -68,7 +64,7 @@ fn sheet_row(earlier: u32) {
     let totals = sheet.totals;
     show_label(b"sheet");
     show_natural(earlier as u64);
-    show_natural(end_number(answer));
+    show_natural(answer.number() as u64);
     show_totals(end_totals(answer));
     show_natural(sheet.count as u64);
     show_totals(totals);
@@ -77,14 +73,13 @@ fn sheet_row(earlier: u32) {
 
 // One run. Asked: first column, length. Answered: number, index, six sums.
 fn run_row(first: u32, length: u32) {
-    let figures = region_figures(plots::run_sums(first, length));
-    let sums = figures.sums;
+    let answer = plots::run_sums(first, length);
     show_label(b"run");
     show_natural(first as u64);
     show_natural(length as u64);
-    show_natural(figures.number);
-    show_natural(figures.index as u64);
-    show_sums(sums);
+    show_natural(answer.number() as u64);
+    show_natural(region_index(answer) as u64);
+    show_sums(region_sums(answer));
     end_row();
 }
 
@@ -96,7 +91,7 @@ fn walk_row(count: u32, a2: i64) {
     show_label(b"walk");
     show_natural(count as u64);
     show_integer(a2);
-    show_natural(end_number(answer));
+    show_natural(answer.number() as u64);
     show_totals(end_totals(answer));
     show_natural(sheet.count as u64);
     end_row();

@@ -11,17 +11,18 @@ ghost use Rattle.outline_calls.specs.WalkAnswers.{pointReading, endReading};
 ghost use Rattle.affine.specs.Answer.{reading as mapReading};
 ghost use Rattle.cells.specs.RegionCall.{Answers};
 ghost use Rattle.worked_plots.specs.Plots.{roundSquare, doubling, afterPoints, square, walkedSquare, endAfter, triangle, runOf, handedIn};
-use crate::figures::list_totals;
 use affine::MapAnswer;
 use cells::RegionAnswer;
 use cells::Run;
 use outline::AffineMap;
+use outline::ORIGIN;
 use outline::Position;
 use outline::Totals;
 use outline::Walk;
 use outline_calls::EndReply;
 use outline_calls::OutlineAnswer;
 use outline_calls::PointReply;
+use outline_replies::list_totals;
 
 // The corners of a square, x and y in turn, anticlockwise.
 const SQUARE: [i32; 8] = [2000, -2000, 2000, 2000, -2000, 2000, -2000, -2000];
@@ -34,8 +35,6 @@ const DOUBLING: AffineMap = AffineMap {
     e: 0,
     f: 0,
 };
-
-const ORIGIN: Position = Position { x: 0, y: 0 };
 
 // A triangle with a corner at (x, 0).
 pub(crate) fn triangle_totals(x: i32) -> OutlineAnswer

@@ -8,7 +8,7 @@ use Rattle.outline.specs.EdgeSums.{Term, a2, openEdges, edges, sumOver, over}
 use Rattle.outline.specs.ListCall.{points, numbers, outside, anyOutside, wrongLength, listCall}
 use Rattle.outline.specs.MapCall.{brackets}
 use Rattle.outline.specs.Pieces.{totalsOf}
-use Rattle.worked_plots.specs.Rows.{rectangle, repeatedFirst, triangle, unitSquare, mirror}
+use Rattle.worked_rows.specs.Rows.{rectangle, repeatedFirst, triangle, unitSquare, mirror}
 
 -- Halved, and the rest dropped.
 abbrev halved : Term → Term

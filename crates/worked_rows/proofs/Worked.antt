@@ -8,7 +8,7 @@ use Rattle.outline.proofs.Every.{All}
 use Rattle.centroid.specs.Centroid.{isCentre, firstCentre, centre, signedBy, outlineCentroidCall, outsideLimit, sumsOutside, regionCentroidCall}
 use Rattle.cells.specs.CellSums.{cellsFrom, cellsOf, allCells, sumsOver}
 use Rattle.cells.specs.RegionCall.{badRun, anyBad, disordered, tooMany, regionCall}
-use Rattle.worked_plots.specs.Rows.{holds, rows, errorRows}
+use Rattle.worked_rows.specs.Rows.{holds, rows, errorRows}
 
 pub worked : All holds rows
 unfolding openEdges edges sumOver over exceed points numbers outside anyOutside wrongLength listCall disallowed mapCall neighbours canCut cutOnce cutAll isCentre firstCentre centre signedBy outlineCentroidCall outsideLimit sumsOutside regionCentroidCall cellsFrom cellsOf allCells sumsOver badRun anyBad disordered tooMany regionCall holds

@@ -1,0 +1,2 @@
+// Document 01, "Plots worked by hand": the plots marked ✱ and rows for "Errors a surveyor would not notice". No code: the rows are in specs/Rows.antt, and proofs/ has the
+// definitions give their figures.
