@@ -16,7 +16,8 @@ use Rattle.outline_calls.specs.declared.walk.EndAnswer.{EndAnswer}
 use Rattle.outline_calls.specs.declared.walk.EndAnswer.the-variants.{Accepted, Impossible, NotOpen, TooFewPoints, SheetFull, SheetExceeded}
 use Rattle.outline_calls.specs.WalkAnswers.{endNumber, endReading}
 use Rattle.printing.specs.Output.{outlineLine, refusalLine}
-use Rattle.printing.specs.Buffer.{fitting, Written}
+use Rattle.decimals.specs.Buffer.{Written}
+use Rattle.printing.specs.Buffer.{fitting}
 use Rattle.text_program.specs.Program.{carriedEnd}
 use Rattle.lines.specs.LineOutcome.{Finished}
 

@@ -2,7 +2,8 @@
 use Prim.Native.Nat.{ℕ}
 use mathlib.Core.Path.{_≡_}
 use mathlib.Core.List.{List}
-use Rattle.printing.specs.Buffer.{fitting, Written}
+use Rattle.printing.specs.Buffer.{fitting}
+use Rattle.decimals.specs.Buffer.{Written}
 use Rattle.text_program.specs.Program.{Carried}
 use Rattle.lines.specs.declared.LineReply.{LineReply}
 

@@ -11,7 +11,7 @@ use lib.Seq.{drop-drop, take-add, take-at, drop-at, length-take-le}
 use borrow.Rule.Slice.PartMut.{mid-len}
 use Rattle.outline.specs.declared.Sheet.{Sheet}
 use Rattle.outline.specs.WalkCalls.{newSheet}
-use Rattle.printing.specs.Buffer.{overwritten}
+use Rattle.decimals.specs.Buffer.{overwritten}
 use Rattle.text_program.specs.declared.State.{State}
 use Rattle.text_program.specs.Stream.{start, feedCall}
 use Rattle.text_program.specs.Chunks.{Place, Run, here, reads, feeds}

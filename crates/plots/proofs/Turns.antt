@@ -11,7 +11,7 @@ use borrow.Author.Tests.{eqb-true, eqb-false}
 use Rattle.outline.specs.declared.Sheet.{Sheet}
 use Rattle.outline.specs.WalkCalls.{newSheet}
 use Rattle.printing.specs.Buffer.{lineRoom}
-use Rattle.printing.proofs.Cases.{by-cond}
+use Rattle.integers.proofs.Cases.{by-cond}
 use Rattle.text_program.specs.declared.State.{State}
 use Rattle.text_program.specs.Stream.{Step, start, feedCall}
 use Rattle.text_program.proofs.Progress.{linesAhead, feed-onward}

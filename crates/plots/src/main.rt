@@ -6,7 +6,7 @@ ghost use lib.IntN.{pos};
 ghost use lib.ListN.{length, take, drop};
 ghost use lib.Signed.{ltZ};
 ghost use Rattle.io.specs.Counts.{clamped};
-ghost use Rattle.printing.specs.Buffer.{overwritten};
+ghost use Rattle.decimals.specs.Buffer.{overwritten};
 
 // Brings the bytes from `from` up to `to` to the front; answers how many they are.
 fn shift(buf: &mut [u8], from: usize, to: usize) -> usize

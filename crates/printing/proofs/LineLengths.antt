@@ -19,29 +19,11 @@ use Rattle.outline.specs.MapCall.{totalLimits}
 use Rattle.outline.specs.private.Fit.{Fit}
 use Rattle.outline.proofs.Limits.{exceed-fit}
 use Rattle.centroid.specs.Centroid.{CentroidOutcome, isCentre, firstCentre, centre, centred, signedBy, outlineCentroidCall}
-use Rattle.printing.specs.Output.{digits, decimal, signed, field, totalsText, centreText, outlineLine, refusalLine, sheetLine}
+use Rattle.decimals.specs.Decimal.{field}
+use Rattle.decimals.proofs.FieldLaws.{natural-length, field-length}
+use Rattle.printing.specs.Output.{totalsText, centreText, outlineLine, refusalLine, sheetLine}
 use Rattle.printing.specs.Buffer.{lineRoom}
-use Rattle.printing.proofs.Cases.{by-cond}
-
--- ---- numbers
-
--- A number below 10^(k + 1) has k + 1 digits at most.
-digits-length : (most k n : ℕ) → n < 10 ^ suc k → length (digits most n) ≤ suc k
-unfolding digits
-digits-length zero k n h = omega arith
-digits-length (suc most) zero n h = rw (lt-ltb n 10 h) (omega arith)
-digits-length (suc most) (suc k) n h = by-cond (λ l. length l ≤ suc (suc k)) (ltb n 10) {yes = (48 + n) ∷ []} {no = digits most (n / 10) ++ (48 + n % 10) ∷ []} (λ e. omega arith) (λ e. simp length-append (omega (arith, digits-length most k (n / 10) (omega arith))))
-
--- With its tab,
-pub natural-length : (k n : ℕ) → n < 10 ^ suc k → length (field (pos n)) ≤ k + 2
-unfolding signed decimal
-natural-length k n h = omega (arith, digits-length (suc n) k n h)
-
--- and with a minus.
-pub field-length : (k : ℕ) (z : ℤ) → natAbs z < 10 ^ suc k → length (field z) ≤ k + 3
-unfolding signed decimal
-field-length k (pos n) h = omega (arith, digits-length (suc n) k n h)
-field-length k (negsuc n) h = omega (arith, digits-length (suc (suc n)) k (suc n) h)
+use Rattle.integers.proofs.Cases.{by-cond}
 
 -- ---- totals
 

@@ -1,24 +1,12 @@
--- What a call that writes text into a buffer leaves: the whole buffer, and the place past the text. Ours; document 01 speaks of the text alone.
-use Prim.Native.Nat.{ℕ, _+_}
-use mathlib.Core.Path.{_≡_}
-use mathlib.Core.Bool.{cond}
-use mathlib.Core.List.{List, [], _++_}
-use lib.Dec.{ltb}
-use lib.ListN.{length, take, drop}
+-- What is written of a line. Ours; document 01 speaks of the text alone.
+use Prim.Native.Nat.{ℕ}
+use mathlib.Core.List.{List}
+use Rattle.decimals.specs.Buffer.{ifRoom}
 
 -- Room for the longest line of the output.
 abbrev pub lineRoom : ℕ
 lineRoom = 192
 
--- The buffer with the text from `at` on; all else is as it was.
-unfoldable pub overwritten : List ℕ → ℕ → List ℕ → List ℕ
-overwritten buffer at text = take at buffer ++ text ++ drop (at + length text) buffer
-
--- What is written of a line: nothing where the buffer has no room for the longest line.
+-- Nothing where the buffer has no room for the longest line.
 unfoldable pub fitting : List ℕ → ℕ → List ℕ → List ℕ
-fitting buffer at line = cond (ltb (length buffer) (at + lineRoom)) [] line
-
--- The text is written from `at` on: the buffer afterwards, and the answer, the place past the text.
-pub record Written (before : List ℕ) (at : ℕ) (text after : List ℕ) (answer : ℕ) : Type 0 where
-  pub buffer : after ≡ overwritten before at text
-  pub end : answer ≡ at + length text
+fitting buffer at line = ifRoom lineRoom buffer at line

@@ -8,9 +8,10 @@ use lib.Dec.{ltb}
 use lib.ListN.{length, drop, length-append, length-drop}
 use lib.Seq.{drop-drop}
 use Rattle.outline.specs.declared.Sheet.{Sheet}
-use Rattle.printing.specs.Buffer.{lineRoom, overwritten, Written}
-use Rattle.printing.proofs.Cases.{by-cond}
-use Rattle.printing.proofs.PutLaws.{then}
+use Rattle.decimals.specs.Buffer.{overwritten, Written}
+use Rattle.printing.specs.Buffer.{lineRoom}
+use Rattle.integers.proofs.Cases.{by-cond}
+use Rattle.decimals.proofs.BufferLaws.{then}
 use Rattle.text_program.specs.declared.State.{State}
 use Rattle.text_program.specs.Stream.{Step, halted, followed, step, steps, feedCall}
 use Rattle.text_program.proofs.Progress.{workLeft, StepProgress, stays, less, step-progress, feed-steps}

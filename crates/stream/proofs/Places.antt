@@ -8,9 +8,10 @@ use lib.Dec.{leb}
 use lib.ListN.{length}
 use borrow.Author.Tests.{le-ltb}
 use Rattle.outline.specs.declared.Sheet.{Sheet}
-use Rattle.printing.specs.Buffer.{lineRoom, overwritten, fitting, Written}
-use Rattle.printing.proofs.PutLaws.{put-nothing}
-use Rattle.printing.proofs.Cases.{by-cond}
+use Rattle.decimals.specs.Buffer.{overwritten, Written}
+use Rattle.printing.specs.Buffer.{lineRoom, fitting}
+use Rattle.decimals.proofs.BufferLaws.{put-nothing}
+use Rattle.integers.proofs.Cases.{by-cond}
 use Rattle.text_program.specs.declared.State.{State}
 use Rattle.text_program.specs.Stream.{Step, halted, part}
 use Rattle.stream.specs.declared.Stepped.{Stepped}

@@ -3,7 +3,7 @@ use mathlib.Core.Path.{_≡_}
 use mathlib.Core.List.{List}
 use Prim.Native.Nat.{ℕ}
 use lib.ListN.{length}
-use Rattle.printing.specs.Buffer.{overwritten}
+use Rattle.decimals.specs.Buffer.{overwritten}
 use Rattle.text_program.specs.Stream.{Step}
 use Rattle.stream.specs.declared.Fed.{Fed}
 

@@ -14,7 +14,7 @@ use Rattle.outline.specs.declared.Sheet.{Sheet}
 use Rattle.printing.specs.Buffer.{lineRoom}
 use Rattle.text_program.specs.declared.State.{State}
 use Rattle.text_program.specs.Stream.{Step, followed, step, steps, feedCall}
-use Rattle.printing.proofs.Cases.{by-cond}
+use Rattle.integers.proofs.Cases.{by-cond}
 use Rattle.text_program.proofs.Lines.{lineSize}
 use Rattle.text_program.proofs.TooFar.{near-bytes}
 use Rattle.text_program.proofs.StepCases.{Reading, Present, StepCase, done, ended, last, waits, far, newline, unended, holds, step-case}

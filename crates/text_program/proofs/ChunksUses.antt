@@ -17,7 +17,8 @@ use Rattle.centroid.specs.Centroid.{outlineCentroidCall}
 use Rattle.text_numbers.specs.Numbers.{allDigits, valueFrom, leadingZero, isNatural, naturalOf, numberOf}
 use Rattle.parsing.specs.Grammar.{withFirst, fields, letterOf, pointOf, isP, formOfFields, formOf}
 use Rattle.newlines.specs.LineLength.{lineLength}
-use Rattle.printing.specs.Output.{digits, decimal, signed, totalsText, centreText, refusalLine, sheetLine}
+use Rattle.decimals.specs.Decimal.{digits, decimal, signed}
+use Rattle.printing.specs.Output.{totalsText, centreText, refusalLine, sheetLine}
 use Rattle.text_program.specs.Program.{carriedWalk, carriedEnd, carryOut, program}
 use Rattle.text_program.specs.Stream.{start, closing, ending, lineStep, step, steps, feedCall}
 use Rattle.text_program.specs.Chunks.{Place, Run, here, reads, feeds, remainingAt}

@@ -6,7 +6,7 @@ use lib.ListN.{length, replicate}
 use lib.Dec.{ltb}
 use borrow.Author.Tests.{lt-ltb}
 use Rattle.parsing.specs.Grammar.{other, letterOf, isP, withFirst, fields, formOfFields, formOf}
-use Rattle.printing.proofs.Cases.{by-cond}
+use Rattle.integers.proofs.Cases.{by-cond}
 
 -- Of a line of over 32 bytes it matters no more what they are.
 pub long-line : (bs : List ℕ) → 32 < length bs → formOf bs ≡ other

@@ -15,7 +15,8 @@ use Rattle.centroid.specs.Centroid.{isCentre, firstCentre, centre, signedBy, ou
 use Rattle.text_numbers.specs.Numbers as Numbers
 use Rattle.text_numbers.specs.Numbers.{allDigits, valueFrom, leadingZero, isNatural, naturalOf}
 use Rattle.parsing.specs.Grammar.{begin, point, withFirst, fields, letterOf, pointOf, isP, formOfFields, formOf}
-use Rattle.printing.specs.Output.{digits, decimal, signed, totalsText, centreText, outlineLine, refusalLine, sheetLine}
+use Rattle.decimals.specs.Decimal.{digits, decimal, signed}
+use Rattle.printing.specs.Output.{totalsText, centreText, outlineLine, refusalLine, sheetLine}
 use Rattle.text_program.specs.Program.{Line, linesFrom, tooFar, program}
 use Rattle.text_program.specs.LineByLine.{callOf, formless, silent, outline, refused, Output, ends, far, near}
 use Rattle.text_program.proofs.Worked.{text}

@@ -10,7 +10,7 @@ use lib.Dec.{eqb}
 use borrow.Author.Tests.{eqb-true}
 use Rattle.text_program.specs.Program.{Line, linesFrom}
 use Rattle.newlines.specs.LineLength.{lineLength}
-use Rattle.printing.proofs.Cases.{by-cond}
+use Rattle.integers.proofs.Cases.{by-cond}
 
 -- ---- the first newline
 

@@ -9,7 +9,7 @@ use Rattle.outline.specs.declared.Walk.{Walk}
 use Rattle.outline.specs.declared.Sheet.{Sheet}
 use Rattle.parsing.specs.Grammar.{formOf}
 use Rattle.text_program.specs.Program.{Line, linesFrom, tooFar, outputOf}
-use Rattle.printing.proofs.Cases.{both-cond}
+use Rattle.integers.proofs.Cases.{both-cond}
 use Rattle.text_program.proofs.Forms.{long-line}
 use Rattle.text_program.proofs.Lines.{line}
 

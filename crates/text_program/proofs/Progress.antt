@@ -15,7 +15,7 @@ use Rattle.printing.specs.Buffer.{lineRoom}
 use Rattle.text_program.specs.declared.State.{State}
 use Rattle.newlines.specs.LineLength.{lineLength}
 use Rattle.text_program.specs.Stream.{Step, halted, followed, step, steps, feedCall}
-use Rattle.printing.proofs.Cases.{by-cond, both-cond}
+use Rattle.integers.proofs.Cases.{by-cond, both-cond}
 use Rattle.text_program.proofs.StepCases.{Reading, StepCase, done, ended, last, waits, far, newline, unended, holds, step-case}
 use Rattle.text_program.proofs.Steps.{steps-keep}
 

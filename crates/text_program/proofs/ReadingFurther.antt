@@ -11,7 +11,7 @@ use Rattle.outline.specs.declared.Sheet.{Sheet}
 use Rattle.outline.specs.WalkCalls.{closed, newSheet}
 use Rattle.parsing.specs.Grammar.{formOf}
 use Rattle.text_program.specs.Program.{Line, linesFrom, tooFar, carryOut, outputOf, program}
-use Rattle.printing.proofs.Cases.{both-cond}
+use Rattle.integers.proofs.Cases.{both-cond}
 use Rattle.text_program.proofs.Lines.{line}
 use Rattle.text_program.proofs.TooFar.{beyond, far-bytes, near-bytes, far-line, held-far}
 

@@ -27,7 +27,7 @@ use Rattle.printing.specs.Buffer.{lineRoom}
 use Rattle.text_program.specs.Program.{Carried, carriedWalk, carriedEnd, carryOut}
 use Rattle.newlines.specs.LineLength.{lineLength}
 use Rattle.text_program.specs.Stream.{Step, heldBytes, whole, step, feedCall}
-use Rattle.printing.proofs.Cases.{by-cond}
+use Rattle.integers.proofs.Cases.{by-cond}
 use Rattle.text_program.proofs.Lines.{lineSize}
 use Rattle.text_program.proofs.TooFar.{near-lines}
 use Rattle.text_program.proofs.StepCases.{Near, StepCase, done, ended, last, waits, far, newline, unended, holds, step-case}

@@ -12,7 +12,7 @@ use Rattle.outline.specs.declared.Sheet.{Sheet}
 use Rattle.text_program.specs.declared.State.{State}
 use Rattle.newlines.specs.LineLength.{lineLength}
 use Rattle.text_program.specs.Stream.{Step, halted, closing, ending, whole, part, lineStep, step}
-use Rattle.printing.proofs.Cases.{by-cond, by-or, by-and}
+use Rattle.integers.proofs.Cases.{by-cond, by-or, by-and}
 use Rattle.text_program.proofs.Lines.{lineSize}
 use Rattle.text_program.proofs.TooFar.{beyond}
 

@@ -9,7 +9,7 @@ use Rattle.outline.specs.declared.Sheet.{Sheet}
 use Rattle.printing.specs.Buffer.{lineRoom}
 use Rattle.text_program.specs.declared.State.{State}
 use Rattle.text_program.specs.Stream.{Step, halted, followed, step, steps}
-use Rattle.printing.proofs.Cases.{by-cond}
+use Rattle.integers.proofs.Cases.{by-cond}
 
 -- P says what becomes of a state, a sheet, a chunk and a room. It holds where nothing is done, of one step where there is room for a line, and of such a step
 -- with others after it, if it holds of those.

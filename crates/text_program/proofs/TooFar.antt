@@ -15,7 +15,7 @@ use Rattle.parsing.specs.Grammar.{formOf}
 use Rattle.printing.specs.Output.{refusalLine, sheetLine}
 use Rattle.text_program.specs.Program.{Line, linesFrom, tooFar, carryOut, outputOf}
 use Rattle.newlines.specs.LineLength.{lineLength}
-use Rattle.printing.proofs.Cases.{by-cond}
+use Rattle.integers.proofs.Cases.{by-cond}
 use Rattle.text_program.proofs.Lines.{line, lineSize}
 
 -- The line after n lines, whose bytes so far end at the place x, is too far.

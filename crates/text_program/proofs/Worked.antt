@@ -13,7 +13,8 @@ use Rattle.outline.specs.WalkCalls.{extended, impossibleWalk, impossibleSheet, 
 use Rattle.centroid.specs.Centroid.{isCentre, firstCentre, centre, signedBy, outlineCentroidCall}
 use Rattle.text_numbers.specs.Numbers.{allDigits, valueFrom, leadingZero, isNatural, negativeOf, naturalOf, numberOf}
 use Rattle.parsing.specs.Grammar.{withFirst, fields, letterOf, pointOf, isP, formOfFields, formOf}
-use Rattle.printing.specs.Output.{digits, decimal, signed, totalsText, centreText, outlineLine, refusalLine, sheetLine}
+use Rattle.decimals.specs.Decimal.{digits, decimal, signed}
+use Rattle.printing.specs.Output.{totalsText, centreText, outlineLine, refusalLine, sheetLine}
 use Rattle.text_program.specs.Program.{linesFrom, tooFar, carriedWalk, carriedEnd, carryOut, outputOf, program}
 
 -- The bytes of lines of ASCII characters, each with its newline. A space stands for a tab, as in the document's listing.

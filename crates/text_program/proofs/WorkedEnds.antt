@@ -5,7 +5,8 @@ use Rattle.outline.specs.EdgeSums.{over, exceed}
 use Rattle.outline.specs.WalkCalls.{closed, newSheet, impossibleWalk, beginCall, abandonCall}
 use Rattle.centroid.specs.Centroid.{outlineCentroidCall}
 use Rattle.parsing.specs.Grammar.{withFirst, fields, letterOf, formOfFields, formOf}
-use Rattle.printing.specs.Output.{digits, decimal, signed, totalsText, centreText, refusalLine, sheetLine}
+use Rattle.decimals.specs.Decimal.{digits, decimal, signed}
+use Rattle.printing.specs.Output.{totalsText, centreText, refusalLine, sheetLine}
 use Rattle.text_program.specs.Program.{linesFrom, tooFar, carriedWalk, carryOut, outputOf, program}
 use Rattle.text_program.proofs.Worked.{text}
 

@@ -14,10 +14,10 @@ pub(crate) fn show_natural(n: u64) {
 pub(crate) fn show_integer(n: i64) {
     if n < 0 {
         io::write_all(1, b"\t-");
-        io::print_decimal(1, printing::magnitude(n));
+        io::print_decimal(1, decimals::magnitude(n));
         return;
     }
-    show_natural(printing::magnitude(n));
+    show_natural(decimals::magnitude(n));
 }
 
 pub(crate) fn show_coordinate(x: i32) {

@@ -8,9 +8,10 @@ use lib.ListN.{length}
 use borrow.Author.Needs.{needs}
 use borrow.Author.Tests.{eq-eqb, ne-eqb}
 use Rattle.text_program.specs.Program.{carriedWalk}
-use Rattle.printing.specs.Buffer.{lineRoom, fitting, Written}
-use Rattle.printing.proofs.Cases.{by-cond}
-use Rattle.printing.proofs.PutLaws.{put-nothing}
+use Rattle.printing.specs.Buffer.{lineRoom, fitting}
+use Rattle.decimals.specs.Buffer.{Written}
+use Rattle.integers.proofs.Cases.{by-cond}
+use Rattle.decimals.proofs.BufferLaws.{put-nothing}
 use Rattle.lines.proofs.tell.Statement.{statement}
 use Rattle.lines.proofs.tell.Tie as tie
 

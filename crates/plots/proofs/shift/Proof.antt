@@ -7,7 +7,7 @@ use native.Mathlib.Numerals.{add-one}
 use lib.ListN.{length, take, drop, getD, set, length-drop}
 use lib.Seq.{paste, paste-zero, paste-suc, drop-paste, getD-drop, length-take-le}
 use borrow.Author.Needs.{needs}
-use Rattle.printing.specs.Buffer.{overwritten}
+use Rattle.decimals.specs.Buffer.{overwritten}
 use Rattle.plots.proofs.shift.Statement.{statement}
 use Rattle.plots.proofs.shift.Tie as tie
 

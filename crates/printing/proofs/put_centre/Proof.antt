@@ -1,15 +1,14 @@
 -- `printing::put_centre` meets its contract, by the two cases of the answer: a centre or none.
-use Prim.Native.Nat.{_≤_}
+use Prim.Native.Nat.{ℕ, _+_, _*_, _≤_}
 use mathlib.Core.Logic.{⊎-elim}
 use mathlib.Core.Path.{_≡_, refl, ap, sym, _∙_}
-use mathlib.Core.List.{[], _∷_, _++_}
+use mathlib.Core.List.{List, [], _∷_, _++_}
 use native.Mathlib.Omega.{arith}
 use borrow.Author.Needs.{needs}
 use lib.IntN.{ℤ}
-use lib.ListN.{length, length-append}
+use lib.ListN.{length, set, length-set}
 use mir.Syntax.{w64}
-use mir.Val.{toZ, ofZ}
-use mir.ValLaws.{toZ-ofZ}
+use mir.Val.{SFits}
 use denote.Enum.Declared.{tagOf}
 use types.Run.{OneOf}
 use Rattle.centroid.proofs.CentroidAnswer.{the-type}
@@ -17,13 +16,16 @@ use Rattle.centroid.specs.declared.CentroidAnswer.{CentroidAnswer}
 use Rattle.centroid.specs.declared.CentroidAnswer.the-variants.{At, OutsideLimits, NoArea}
 use Rattle.centroid.specs.Centroid.{outlineCentroidCall}
 use Rattle.centroid.specs.Answers.{reading}
-use Rattle.printing.specs.Output.{field, centreText}
-use Rattle.printing.specs.Buffer.{Written}
-use Rattle.printing.proofs.PutLaws.{then, next-fits}
+use Rattle.decimals.specs.Decimal.{field, fieldRoom}
+use Rattle.decimals.specs.Buffer.{Written}
+use Rattle.decimals.proofs.BufferLaws.{SoFar, none-yet, and-byte}
+use Rattle.decimals.proofs.FieldLaws.{and-field}
+use Rattle.printing.specs.Output.{centreText}
 use Rattle.printing.proofs.put_centre.Statement.{statement}
 use Rattle.printing.proofs.put_centre.Tie as tie
 
--- The answer is not a centre.
+-- ---- the answer is not a centre
+
 no-centre : (a : CentroidAnswer) → OneOf (1 ∷ 2 ∷ []) (tagOf the-type a) → centreText (reading a) ≡ 9 ∷ 45 ∷ 9 ∷ 45 ∷ []
 unfolding centreText
 no-centre (At x y) k = absurd (⊎-elim (λ e. omega arith) (λ e. omega arith) k)
@@ -33,7 +35,25 @@ no-centre NoArea k = refl
 missing : (c : tie.At-match-keys2) → centreText (outlineCentroidCall (c .before .before .before .args .t)) ≡ 9 ∷ 45 ∷ 9 ∷ 45 ∷ []
 missing c = ap centreText (sym (c .before .outline-centroid .ensures)) ∙ no-centre (c .before .outline-centroid .result) (c .match .keys2)
 
--- The answer is a centre: its x and y, as the match binds them.
+minuses-written : (o : List ℕ) (at : ℕ) → at + 4 ≤ length o → Written o at (9 ∷ 45 ∷ 9 ∷ 45 ∷ []) (set (set (set (set o at 9) (at + 1) 45) (at + 2) 9) (at + 3) 45) (at + 4)
+minuses-written o at h =
+    let two : at + 1 + 1 ≡ at + 2 = omega arith in
+    let three : at + 2 + 1 ≡ at + 3 = omega arith in
+    let four : at + 3 + 1 ≡ at + 4 = omega arith in
+    let pair = rw two at (and-byte 2 (and-byte 3 (none-yet o at 4 h) 9) 45) in
+    rw four at (and-byte 0 (rw three at (and-byte 1 pair 9)) 45 .written)
+
+-- ---- the answer is a centre: its x and y, as the match binds them
+
+abbrev first-of : tie.After-put-field2 → tie.After-put-field
+first-of c = c .before .before .before .before
+
+abbrev bound-of : tie.After-put-field → tie.After-known-told
+bound-of c = c .before .before
+
+abbrev entry : tie.After-known-told → tie.Start
+entry c = c .before .before .before .before .before
+
 module _ (c : tie.After-known-told) where
   abbrev x : ℤ
   x = c .before .x .given .0 .0
@@ -41,18 +61,24 @@ module _ (c : tie.After-known-told) where
   abbrev y : ℤ
   y = c .before .x .given .0 .1 .0
 
-  x-held : toZ w64 (ofZ w64 x) ≡ x
-  x-held = toZ-ofZ w64 x (record { sfits = c .known-told .given .0 .1 })
+  x-fits : SFits w64 x
+  x-fits = record { sfits = c .known-told .given .0 .1 }
 
-  y-held : toZ w64 (ofZ w64 y) ≡ y
-  y-held = toZ-ofZ w64 y (record { sfits = c .known-told .given .1 .0 .1 })
+  y-fits : SFits w64 y
+  y-fits = record { sfits = c .known-told .given .1 .0 .1 }
 
-  found : centreText (outlineCentroidCall (c .before .before .before .before .before .args .t)) ≡ field x ++ field y
+  found : centreText (outlineCentroidCall (entry c .args .t)) ≡ field x ++ field y
   unfolding centreText
   found = ap centreText (sym (c .before .before .before .outline-centroid .ensures) ∙ ap reading (c .before .x .given .1))
 
-x-written : (c : tie.After-put-field) → (let a = c .before .before in let s = a .before .before .before .before .before in Written (s .args .out .now) (s .args .at) (field (x a)) (c .put-field .last .0) (c .put-field .result))
-x-written c = rw (x-held (c .before .before)) at (c .put-field .ensures)
+both-written : (c : tie.After-put-field2) → (let s = entry (bound-of (first-of c)) in Written (s .args .out .now) (s .args .at) (centreText (outlineCentroidCall (s .args .t))) (c .put-field2 .last .0) (c .put-field2 .result))
+both-written c =
+    let first = first-of c in
+    let bound = bound-of first in
+    let s = entry bound in
+    let none = none-yet (s .args .out .now) (s .args .at) (2 * fieldRoom) (s .pre) in
+    let one = and-field fieldRoom none (x bound) (x-fits bound) (first .put-field .ensures) in
+    rw (found bound) (and-field 0 one (y bound) (y-fits bound) (c .put-field2 .ensures) .written)
 
 outline-centroid-requires : tie.Need-outline-centroid-requires
 outline-centroid-requires c κs = search needs
@@ -60,37 +86,47 @@ outline-centroid-requires c κs = search needs
 enum-known-x : tie.Need-enum-known-x
 enum-known-x c = search needs
 
-put-byte-requires : tie.Need-put-byte-requires
-put-byte-requires c κs = omega (arith, ap length (missing (c .before)), c .before .before .before .before .pre)
+slice-write-out : tie.Need-slice-write-out
+slice-write-out c = search needs
 
-put-byte-requires-2 : tie.Need-put-byte-requires-2
-put-byte-requires-2 c κs = omega (arith, ap length (missing (c .before .before .before .before .before)), c .before .before .before .before .before .before .before .before .pre, c .before .before .before .put-byte .kept .0)
+add-out : tie.Need-add-out
+add-out c = search needs
 
-put-byte-requires-3 : tie.Need-put-byte-requires-3
-put-byte-requires-3 c κs = omega (arith, ap length (missing (c .before .before .before .before .before .before .before .before .before)), c .before .before .before .before .before .before .before .before .before .before .before .before .pre, c .before .before .before .put-byte2 .kept .0, c .before .before .before .before .before .before .before .put-byte .kept .0)
+slice-write-out-2 : tie.Need-slice-write-out-2
+slice-write-out-2 c = simp length-set (omega (arith, c .before .before .before .pre))
 
-put-byte-requires-4 : tie.Need-put-byte-requires-4
-put-byte-requires-4 c κs = omega (arith, ap length (missing (c .before .before .before .before .before .before .before .before .before .before .before .before .before)), c .before .before .before .before .before .before .before .before .before .before .before .before .before .before .before .before .pre, c .before .before .before .put-byte3 .kept .0, c .before .before .before .before .before .before .before .put-byte2 .kept .0, c .before .before .before .before .before .before .before .before .before .before .before .put-byte .kept .0)
+add-out-2 : tie.Need-add-out-2
+add-out-2 c = search needs
+
+slice-write-out-3 : tie.Need-slice-write-out-3
+slice-write-out-3 c = simp length-set (omega (arith, c .before .before .before .pre))
+
+add-out-3 : tie.Need-add-out-3
+add-out-3 c = search needs
+
+slice-write-out-4 : tie.Need-slice-write-out-4
+slice-write-out-4 c = simp length-set (omega (arith, c .before .before .before .pre))
+
+add-result : tie.Need-add-result
+add-result c = search needs
 
 same-length : tie.Need-same-length
 same-length c = search needs
 
 returns : tie.Need-returns
-returns c =
-    let h : c .before .before .before .before .before .before .before .before .before .before .before .before .before .before .before .before .before .before .before .args .at ≤ length (c .before .before .before .before .before .before .before .before .before .before .before .before .before .before .before .before .before .before .before .args .out .now) = omega (arith, c .before .before .before .before .before .before .before .before .before .before .before .before .before .before .before .before .before .before .before .pre) in
-    rw (missing (c .before .before .before .before .before .before .before .before .before .before .before .before .before .before .before .before)) (then h (then h (then h (c .before .before .before .before .before .before .before .before .before .before .before .before .before .before .put-byte .ensures) (c .before .before .before .before .before .before .before .before .before .before .put-byte2 .ensures)) (c .before .before .before .before .before .before .put-byte3 .ensures)) (c .before .before .put-byte4 .ensures))
+returns c = let s = c .before .before .before in rw (missing c) (minuses-written (s .args .out .now) (s .args .at) (omega (arith, s .pre)))
 
 put-field-requires : tie.Need-put-field-requires
-put-field-requires c κs = let a = c .before in rw (x-held a) (omega (arith, ap length (found a), length-append (field (x a)) (field (y a)), c .before .before .before .before .before .before .pre))
+put-field-requires c κs = search needs
 
 put-field-requires-2 : tie.Need-put-field-requires-2
-put-field-requires-2 c κs = let a = c .before .before .before .before .before in rw (y-held a) (next-fits (x-written (c .before .before .before)) (field (y a)) (omega (arith, ap length (found a), c .before .before .before .before .before .before .before .before .before .before .pre)))
+put-field-requires-2 c κs = search needs
 
 same-length-2 : tie.Need-same-length-2
 same-length-2 c = search needs
 
 returns-2 : tie.Need-returns-2
-returns-2 c = let a = c .before .before .before .before .before .before .before .before in rw (found a) (then (omega (arith, c .before .before .before .before .before .before .before .before .before .before .before .before .before .pre)) (x-written (c .before .before .before .before .before .before)) (rw (y-held a) at (c .before .before .put-field2 .ensures)))
+returns-2 c = both-written (c .before .before)
 
 pub put-centre-spec : {M : Type 1} → statement M
 put-centre-spec =
@@ -98,10 +134,14 @@ put-centre-spec =
     (tie.spec
     outline-centroid-requires
     enum-known-x
-    put-byte-requires
-    put-byte-requires-2
-    put-byte-requires-3
-    put-byte-requires-4
+    slice-write-out
+    add-out
+    slice-write-out-2
+    add-out-2
+    slice-write-out-3
+    add-out-3
+    slice-write-out-4
+    add-result
     same-length
     returns
     put-field-requires

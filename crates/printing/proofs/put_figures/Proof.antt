@@ -1,41 +1,46 @@
 -- `printing::put_figures` meets its contract: each piece is written after the one before.
-use Prim.Native.Nat.{_+_, _≤_}
-use mathlib.Core.List.{[], _∷_, _++_}
+use Prim.Native.Nat.{_+_, _*_}
+use mathlib.Core.Path.{_∙_}
+use mathlib.Core.List.{_++_}
 use native.Mathlib.Omega.{arith}
-use lib.ListN.{length, length-append}
+use borrow.Author.Needs.{needs}
+use Rattle.outline.specs.private.Fit.{Fit}
 use Rattle.centroid.specs.Centroid.{outlineCentroidCall}
+use Rattle.decimals.specs.Decimal.{fieldRoom}
+use Rattle.decimals.proofs.BufferLaws.{SoFar, none-yet, and-text, and-byte, room-left}
 use Rattle.printing.specs.Output.{totalsText, centreText}
-use Rattle.printing.specs.Buffer.{Written}
-use Rattle.printing.proofs.PutLaws.{then, next-fits, same-size}
+use Rattle.printing.proofs.LineLengths.{wide, fit-wide, totals-length, centre-length}
 use Rattle.printing.proofs.put_figures.Statement.{statement}
 use Rattle.printing.proofs.put_figures.Tie as tie
 
-pieces : (s : tie.Start) → s .args .at + (length (totalsText (s .args .t)) + length (centreText (outlineCentroidCall (s .args .t))) + 1) ≤ length (s .args .out .now)
-pieces s = omega (arith, simp length-append at (s .pre))
+wide-totals : (s : tie.Start) → Fit wide (s .args .t)
+wide-totals s = fit-wide (s .args .t) (search needs) (search needs) (search needs) (search needs) (search needs) (search needs)
 
--- What is written after the second piece.
-written-2 : (c : tie.After-put-centre) → (let s = c .before .before .before .before .before .before .before in Written (s .args .out .now) (s .args .at) (totalsText (s .args .t) ++ centreText (outlineCentroidCall (s .args .t))) (c .put-centre .last .0) (c .put-centre .result))
-written-2 c = then (omega (arith, pieces (c .before .before .before .before .before .before .before))) (c .before .before .before .before .put-totals .ensures) (c .put-centre .ensures)
+at-totals : (c : tie.After-put-totals) → (let s = c .before .before .before in SoFar (s .args .out .now) (s .args .at) (totalsText (s .args .t)) (c .put-totals .last .0) (c .put-totals .result) (2 * fieldRoom + 1))
+at-totals c =
+    let s = c .before .before .before in
+    and-text (6 * fieldRoom) (2 * fieldRoom + 1) (none-yet (s .args .out .now) (s .args .at) (8 * fieldRoom + 1) (s .pre)) (totals-length (s .args .t) (wide-totals s)) (c .put-totals .ensures)
+
+at-centre : (c : tie.After-put-centre) → (let s = c .before .before .before .before .before .before .before in SoFar (s .args .out .now) (s .args .at) (totalsText (s .args .t) ++ centreText (outlineCentroidCall (s .args .t))) (c .put-centre .last .0) (c .put-centre .result) 1)
+at-centre c = let t = c .before .before .before .before in and-text (2 * fieldRoom) 1 (at-totals t) (centre-length (t .before .before .before .args .t)) (c .put-centre .ensures)
 
 put-totals-requires : tie.Need-put-totals-requires
-put-totals-requires c κs = omega (arith, pieces (c .before .before))
+put-totals-requires c κs = search needs
 
 put-centre-requires : tie.Need-put-centre-requires
-put-centre-requires c κs = let s = c .before .before .before .before .before .before in next-fits (c .before .before .before .put-totals .ensures) (centreText (outlineCentroidCall (s .args .t))) (simp length-append (omega (arith, pieces s)))
+put-centre-requires c κs = omega (arith, room-left (at-totals (c .before .before .before)))
 
-put-byte-requires : tie.Need-put-byte-requires
-put-byte-requires c κs = omega (arith, next-fits (written-2 (c .before .before .before)) (10 ∷ []) (simp length-append (omega (arith, pieces (c .before .before .before .before .before .before .before .before .before .before)))))
+slice-write-out : tie.Need-slice-write-out
+slice-write-out c = omega (arith, room-left (at-centre (c .before .before)))
 
-all-written : (c : tie.After-put-byte) → (let s = c .before .before .before .before .before .before .before .before .before .before .before in Written (s .args .out .now) (s .args .at) (totalsText (s .args .t) ++ centreText (outlineCentroidCall (s .args .t)) ++ 10 ∷ []) (c .put-byte .last .0) (c .put-byte .result))
-all-written c = then (omega (arith, pieces (c .before .before .before .before .before .before .before .before .before .before .before))) (written-2 (c .before .before .before .before)) (c .put-byte .ensures)
+add-result : tie.Need-add-result
+add-result c = let inside = slice-write-out c in search needs
 
 same-length : tie.Need-same-length
-same-length c = same-size (all-written (c .before .before)) (c .before .before .before .before .before .before .before .before .before .before .before .before .before .pre)
+same-length c = and-byte 0 (at-centre (c .before .before)) 10 .size
 
 returns : tie.Need-returns
-returns c = all-written (c .before .before)
+returns c = and-byte 0 (at-centre (c .before .before)) 10 .written
 
 pub put-figures-spec : {M : Type 1} → statement M
-put-figures-spec =
-    tie.close
-    (tie.spec put-totals-requires put-centre-requires put-byte-requires same-length returns)
+put-figures-spec = tie.close (tie.spec put-totals-requires put-centre-requires slice-write-out add-result same-length returns)

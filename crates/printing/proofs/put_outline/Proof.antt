@@ -1,75 +1,89 @@
 -- `printing::put_outline` meets its contract: where there is room for the longest line, each piece is written after the one before.
-use Prim.Native.Nat.{_+_, _^_, _≤_, _<_}
-use mathlib.Core.List.{[], _∷_, _++_}
+use Prim.Native.Nat.{_+_, _*_, _≤_}
+use mathlib.Core.Path.{_∙_}
+use mathlib.Core.List.{_∷_, _++_}
 use native.Mathlib.Omega.{arith}
 use borrow.Author.Needs.{needs}
 use lib.IntN.{pos}
-use lib.ListN.{length, length-append}
-use Rattle.outline.specs.private.Fit.{Fit}
-use Rattle.printing.specs.Output.{field, figuresText, outlineLine}
-use Rattle.printing.proofs.LineLengths.{wide, fit-wide, outline-length}
-use Rattle.printing.specs.Buffer.{Written}
-use Rattle.printing.proofs.PutLaws.{then, next-fits, same-size, not-written, line-written, has-room}
+use lib.ListN.{length}
+use Rattle.decimals.specs.Decimal.{field, fieldRoom}
+use Rattle.decimals.proofs.BufferLaws.{SoFar, none-yet, and-if-room, and-byte, and-last, room-left, has-room, not-written, text-written}
+use Rattle.decimals.proofs.FieldLaws.{natural-length}
+use Rattle.printing.specs.Output.{outlineLine}
+use Rattle.printing.specs.Buffer.{lineRoom, fitting}
 use Rattle.printing.proofs.put_outline.Statement.{statement}
 use Rattle.printing.proofs.put_outline.Tie as tie
 
-wide-totals : (s : tie.Start) → Fit wide (s .args .t)
-wide-totals s = fit-wide (s .args .t) (search needs) (search needs) (search needs) (search needs) (search needs) (search needs)
+-- ---- the places, each from the next: where there is room, after the outline's number, after its points
 
--- There is room for the whole line.
-room : (c : tie.Else1) → (let s = c .before .before .before in s .args .at + length (outlineLine (s .args .outlines) (s .args .points) (s .args .t)) ≤ length (s .args .out .now))
-room c = let s = c .before .before .before in omega (arith, has-room (s .args .out .now) (s .args .at) (c .before .too-short .ensures) (c .if1 .left), outline-length (s .args .outlines) (s .args .points) (s .args .t) (omega (arith, s .fits .outlines)) (omega (arith, s .fits .points)) (wide-totals s))
+abbrev entry : tie.Else1 → tie.Start
+entry c = c .before .before .before
 
-pieces : (c : tie.Else1) → (let s = c .before .before .before in s .args .at + (1 + length (field (pos (s .args .outlines))) + length (field (pos (s .args .points))) + length (figuresText (s .args .t))) ≤ length (s .args .out .now))
-unfolding outlineLine
-pieces c = omega (arith, length-append (79 ∷ field (pos (c .before .before .before .args .outlines)) ++ field (pos (c .before .before .before .args .points))) (figuresText (c .before .before .before .args .t)), length-append (79 ∷ field (pos (c .before .before .before .args .outlines))) (field (pos (c .before .before .before .args .points))), room c)
+abbrev roomy-of : tie.After-put-natural → tie.Else1
+roomy-of c = c .before .before
 
--- What is written after each piece.
-written-2 : (c : tie.After-put-natural) → (let s = c .before .before .before .before .before .before .before .before .before in Written (s .args .out .now) (s .args .at) ((79 ∷ []) ++ field (pos (s .args .outlines))) (c .put-natural .last .0) (c .put-natural .result))
-written-2 c = then (omega (arith, pieces (c .before .before .before .before .before .before))) (c .before .before .before .before .put-byte .ensures) (c .put-natural .ensures)
+abbrev number-of : tie.After-put-natural2 → tie.After-put-natural
+number-of c = c .before .before .before .before
 
-written-3 : (c : tie.After-put-natural2) → (let s = c .before .before .before .before .before .before .before .before .before .before .before .before .before in Written (s .args .out .now) (s .args .at) ((79 ∷ []) ++ field (pos (s .args .outlines)) ++ field (pos (s .args .points))) (c .put-natural2 .last .0) (c .put-natural2 .result))
-written-3 c = then (omega (arith, pieces (c .before .before .before .before .before .before .before .before .before .before))) (written-2 (c .before .before .before .before)) (c .put-natural2 .ensures)
+abbrev points-of : tie.After-put-figures → tie.After-put-natural2
+points-of c = c .before .before .before .before
 
-written-4 : (c : tie.After-put-figures) → (let s = c .before .before .before .before .before .before .before .before .before .before .before .before .before .before .before .before .before in Written (s .args .out .now) (s .args .at) ((79 ∷ []) ++ field (pos (s .args .outlines)) ++ field (pos (s .args .points)) ++ figuresText (s .args .t)) (c .put-figures .last .0) (c .put-figures .result))
-written-4 c = then (omega (arith, pieces (c .before .before .before .before .before .before .before .before .before .before .before .before .before .before))) (written-3 (c .before .before .before .before)) (c .put-figures .ensures)
+-- ---- what is written there
 
-too-short-requires : tie.Need-too-short-requires
-too-short-requires c κs = search needs
+roomy : (c : tie.Else1) → entry c .args .at + lineRoom ≤ length (entry c .args .out .now)
+roomy c = let s = entry c in has-room lineRoom (s .args .out .now) (s .args .at) (c .before .lacks-room .ensures) (c .if1 .left)
+
+counts-written : (c : tie.After-put-natural2) → (let s = entry (roomy-of (number-of c)) in SoFar (s .args .out .now) (s .args .at) (79 ∷ field (pos (s .args .outlines)) ++ field (pos (s .args .points))) (c .put-natural2 .last .0) (c .put-natural2 .result) (8 * fieldRoom + 1))
+counts-written c =
+    let n = number-of c in
+    let e = roomy-of n in
+    let s = entry e in
+    let mark = and-byte 191 (none-yet (s .args .out .now) (s .args .at) lineRoom (roomy e)) 79 in
+    let number = and-if-room 11 180 mark fieldRoom (field (pos (s .args .outlines))) (omega arith) (natural-length 9 (s .args .outlines) (omega (arith, s .fits .outlines))) (n .put-natural .ensures) in
+    and-if-room 11 (8 * fieldRoom + 1) number fieldRoom (field (pos (s .args .points))) (omega arith) (natural-length 9 (s .args .points) (omega (arith, s .fits .points))) (c .put-natural2 .ensures)
+
+lacks-room-requires : tie.Need-lacks-room-requires
+lacks-room-requires c κs = search needs
 
 returns : tie.Need-returns
-returns c = let s = c .before .before .before in not-written (s .args .out .now) (s .args .at) (outlineLine (s .args .outlines) (s .args .points) (s .args .t)) (c .before .too-short .ensures) (c .if1 .taken)
+unfolding fitting
+returns c = let s = c .before .before .before in not-written lineRoom (s .args .out .now) (s .args .at) (c .before .lacks-room .ensures) (outlineLine (s .args .outlines) (s .args .points) (s .args .t)) (c .if1 .taken)
 
-put-byte-requires : tie.Need-put-byte-requires
-put-byte-requires c κs = omega (arith, pieces (c .before))
+slice-write-out : tie.Need-slice-write-out
+slice-write-out c = omega (arith, roomy c)
+
+add-put-natural : tie.Need-add-put-natural
+add-put-natural c = let inside = slice-write-out (c .before) in search needs
 
 put-natural-requires : tie.Need-put-natural-requires
-put-natural-requires c κs = let s = c .before .before .before .before .before .before .before .before in next-fits (c .before .before .before .put-byte .ensures) (field (pos (s .args .outlines))) (omega (arith, pieces (c .before .before .before .before .before)))
+put-natural-requires c κs = search needs
 
 put-natural-requires-2 : tie.Need-put-natural-requires-2
-put-natural-requires-2 c κs = let s = c .before .before .before .before .before .before .before .before .before .before .before .before in next-fits (written-2 (c .before .before .before)) (field (pos (s .args .points))) (simp length-append (omega (arith, pieces (c .before .before .before .before .before .before .before .before .before))))
+put-natural-requires-2 c κs = search needs
 
 put-figures-requires : tie.Need-put-figures-requires
-put-figures-requires c κs = let s = c .before .before .before .before .before .before .before .before .before .before .before .before .before .before .before .before in next-fits (written-3 (c .before .before .before)) (figuresText (s .args .t)) (omega (arith, length-append ((79 ∷ []) ++ field (pos (s .args .outlines)) ++ field (pos (s .args .points))) (figuresText (s .args .t)), length-append ((79 ∷ []) ++ field (pos (s .args .outlines))) (field (pos (s .args .points))), pieces (c .before .before .before .before .before .before .before .before .before .before .before .before .before)))
+put-figures-requires c κs = room-left (counts-written (c .before .before .before))
 
 same-length : tie.Need-same-length
-unfolding outlineLine
-same-length c = same-size (written-4 (c .before .before)) (room (c .before .before .before .before .before .before .before .before .before .before .before .before .before .before .before .before))
+same-length c = let all = c .before .before in all .put-figures .kept .0 ∙ counts-written (points-of all) .size
 
 returns-2 : tie.Need-returns-2
-unfolding outlineLine
+unfolding fitting outlineLine
 returns-2 c =
-    let e = c .before .before .before .before .before .before .before .before .before .before .before .before .before .before .before .before in
-    let s = e .before .before .before in
-    line-written (s .args .out .now) (s .args .at) (outlineLine (s .args .outlines) (s .args .points) (s .args .t)) (e .before .too-short .ensures) (e .if1 .left) (written-4 (c .before .before))
+    let all = c .before .before in
+    let counts = points-of all in
+    let e = roomy-of (number-of counts) in
+    let s = entry e in
+    text-written lineRoom (s .args .out .now) (s .args .at) (e .before .lacks-room .ensures) (outlineLine (s .args .outlines) (s .args .points) (s .args .t)) (e .if1 .left) (and-last (counts-written counts) (all .put-figures .ensures))
 
 pub put-outline-spec : {M : Type 1} → statement M
 put-outline-spec =
     tie.close
     (tie.spec
-    too-short-requires
+    lacks-room-requires
     returns
-    put-byte-requires
+    slice-write-out
+    add-put-natural
     put-natural-requires
     put-natural-requires-2
     put-figures-requires

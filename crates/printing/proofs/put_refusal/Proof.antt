@@ -1,76 +1,90 @@
 -- `printing::put_refusal` meets its contract: where there is room for the longest line, each piece is written after the one before.
-use Prim.Native.Nat.{_+_, _^_, _≤_, _<_}
-use mathlib.Core.List.{[], _∷_, _++_}
+use Prim.Native.Nat.{_+_, _≤_}
+use mathlib.Core.List.{_∷_, _++_}
 use native.Mathlib.Omega.{arith}
 use borrow.Author.Needs.{needs}
 use lib.IntN.{pos}
-use lib.ListN.{length, length-append}
-use Rattle.printing.specs.Output.{field, refusalLine}
-use Rattle.printing.proofs.LineLengths.{refusal-length}
-use Rattle.printing.specs.Buffer.{Written}
-use Rattle.printing.proofs.PutLaws.{then, next-fits, same-size, not-written, line-written, has-room}
+use lib.ListN.{length}
+use Rattle.decimals.specs.Decimal.{field, fieldRoom}
+use Rattle.decimals.proofs.BufferLaws.{SoFar, none-yet, and-if-room, and-byte, room-left, has-room, not-written, text-written}
+use Rattle.decimals.proofs.FieldLaws.{natural-fits}
+use Rattle.printing.specs.Output.{refusalLine}
+use Rattle.printing.specs.Buffer.{lineRoom, fitting}
 use Rattle.printing.proofs.put_refusal.Statement.{statement}
 use Rattle.printing.proofs.put_refusal.Tie as tie
 
--- There is room for the whole line.
-room : (c : tie.Else1) → (let s = c .before .before .before in s .args .at + length (refusalLine (s .args .line) (s .args .number)) ≤ length (s .args .out .now))
-room c = let s = c .before .before .before in omega (arith, has-room (s .args .out .now) (s .args .at) (c .before .too-short .ensures) (c .if1 .left), refusal-length (s .args .line) (s .args .number) (omega (arith, s .fits .line)) (omega (arith, s .fits .number)))
+-- ---- the places, each from the next: where there is room, after the line's number, after the refusal's
 
-pieces : (c : tie.Else1) → (let s = c .before .before .before in s .args .at + (1 + length (field (pos (s .args .line))) + length (field (pos (s .args .number))) + 1) ≤ length (s .args .out .now))
-unfolding refusalLine
-pieces c = omega (arith, simp length-append at (room c))
+abbrev roomy-of : tie.After-put-natural → tie.Else1
+roomy-of c = c .before .before
 
--- What is written after each piece.
-written-1 : (c : tie.After-put-byte) → (let s = c .before .before .before .before .before in Written (s .args .out .now) (s .args .at) ((82 ∷ [])) (c .put-byte .last .0) (c .put-byte .result))
-written-1 c = c .put-byte .ensures
+abbrev line-of : tie.After-put-natural2 → tie.After-put-natural
+line-of c = c .before .before .before .before
 
-written-2 : (c : tie.After-put-natural) → (let s = c .before .before .before .before .before .before .before .before .before in Written (s .args .out .now) (s .args .at) ((82 ∷ []) ++ field (pos (s .args .line))) (c .put-natural .last .0) (c .put-natural .result))
-written-2 c = then (omega (arith, pieces (c .before .before .before .before .before .before))) (written-1 (c .before .before .before .before)) (c .put-natural .ensures)
+abbrev entry : tie.Else1 → tie.Start
+entry c = c .before .before .before
 
-written-3 : (c : tie.After-put-natural2) → (let s = c .before .before .before .before .before .before .before .before .before .before .before .before .before in Written (s .args .out .now) (s .args .at) ((82 ∷ []) ++ field (pos (s .args .line)) ++ field (pos (s .args .number))) (c .put-natural2 .last .0) (c .put-natural2 .result))
-written-3 c = then (omega (arith, pieces (c .before .before .before .before .before .before .before .before .before .before))) (written-2 (c .before .before .before .before)) (c .put-natural2 .ensures)
+-- ---- what is written there
 
-written-4 : (c : tie.After-put-byte2) → (let s = c .before .before .before .before .before .before .before .before .before .before .before .before .before .before .before .before .before in Written (s .args .out .now) (s .args .at) ((82 ∷ []) ++ field (pos (s .args .line)) ++ field (pos (s .args .number)) ++ (10 ∷ [])) (c .put-byte2 .last .0) (c .put-byte2 .result))
-written-4 c = then (omega (arith, pieces (c .before .before .before .before .before .before .before .before .before .before .before .before .before .before))) (written-3 (c .before .before .before .before)) (c .put-byte2 .ensures)
+roomy : (c : tie.Else1) → entry c .args .at + lineRoom ≤ length (entry c .args .out .now)
+roomy c = let s = entry c in has-room lineRoom (s .args .out .now) (s .args .at) (c .before .lacks-room .ensures) (c .if1 .left)
 
-too-short-requires : tie.Need-too-short-requires
-too-short-requires c κs = search needs
+all-written : (c : tie.After-put-natural2) → (let s = entry (roomy-of (line-of c)) in SoFar (s .args .out .now) (s .args .at) (82 ∷ field (pos (s .args .line)) ++ field (pos (s .args .number))) (c .put-natural2 .last .0) (c .put-natural2 .result) 149)
+all-written c =
+    let l = line-of c in
+    let e = roomy-of l in
+    let s = entry e in
+    let mark = and-byte 191 (none-yet (s .args .out .now) (s .args .at) lineRoom (roomy e)) 82 in
+    let line = and-if-room fieldRoom 170 mark fieldRoom (field (pos (s .args .line))) (omega arith) (natural-fits (s .args .line) (s .fits .line)) (l .put-natural .ensures) in
+    and-if-room fieldRoom 149 line fieldRoom (field (pos (s .args .number))) (omega arith) (natural-fits (s .args .number) (s .fits .number)) (c .put-natural2 .ensures)
+
+lacks-room-requires : tie.Need-lacks-room-requires
+lacks-room-requires c κs = search needs
 
 returns : tie.Need-returns
-returns c = let s = c .before .before .before in not-written (s .args .out .now) (s .args .at) (refusalLine (s .args .line) (s .args .number)) (c .before .too-short .ensures) (c .if1 .taken)
+unfolding fitting
+returns c = let s = c .before .before .before in not-written lineRoom (s .args .out .now) (s .args .at) (c .before .lacks-room .ensures) (refusalLine (s .args .line) (s .args .number)) (c .if1 .taken)
 
-put-byte-requires : tie.Need-put-byte-requires
-put-byte-requires c κs = omega (arith, pieces (c .before))
+slice-write-out : tie.Need-slice-write-out
+slice-write-out c = omega (arith, roomy c)
+
+add-put-natural : tie.Need-add-put-natural
+add-put-natural c = let inside = slice-write-out (c .before) in search needs
 
 put-natural-requires : tie.Need-put-natural-requires
-put-natural-requires c κs = let s = c .before .before .before .before .before .before .before .before in next-fits (written-1 (c .before .before .before)) (field (pos (s .args .line))) (simp length-append (omega (arith, pieces (c .before .before .before .before .before))))
+put-natural-requires c κs = search needs
 
 put-natural-requires-2 : tie.Need-put-natural-requires-2
-put-natural-requires-2 c κs = let s = c .before .before .before .before .before .before .before .before .before .before .before .before in next-fits (written-2 (c .before .before .before)) (field (pos (s .args .number))) (simp length-append (omega (arith, pieces (c .before .before .before .before .before .before .before .before .before))))
+put-natural-requires-2 c κs = search needs
 
-put-byte-requires-2 : tie.Need-put-byte-requires-2
-put-byte-requires-2 c κs = let s = c .before .before .before .before .before .before .before .before .before .before .before .before .before .before .before .before in omega (arith, next-fits (written-3 (c .before .before .before)) (10 ∷ []) (simp length-append (omega (arith, pieces (c .before .before .before .before .before .before .before .before .before .before .before .before .before)))))
+slice-write-out-2 : tie.Need-slice-write-out-2
+slice-write-out-2 c = omega (arith, room-left (all-written (c .before .before)))
+
+add-result : tie.Need-add-result
+add-result c = let so-far = all-written (c .before .before) in search needs
 
 same-length : tie.Need-same-length
-unfolding refusalLine
-same-length c = same-size (written-4 (c .before .before)) (room (c .before .before .before .before .before .before .before .before .before .before .before .before .before .before .before .before))
+same-length c = and-byte 148 (all-written (c .before .before)) 10 .size
 
 returns-2 : tie.Need-returns-2
-unfolding refusalLine
+unfolding fitting refusalLine
 returns-2 c =
-    let e = c .before .before .before .before .before .before .before .before .before .before .before .before .before .before .before .before in
-    let s = e .before .before .before in
-    line-written (s .args .out .now) (s .args .at) (refusalLine (s .args .line) (s .args .number)) (e .before .too-short .ensures) (e .if1 .left) (written-4 (c .before .before))
+    let numbers = c .before .before in
+    let e = roomy-of (line-of numbers) in
+    let s = entry e in
+    text-written lineRoom (s .args .out .now) (s .args .at) (e .before .lacks-room .ensures) (refusalLine (s .args .line) (s .args .number)) (e .if1 .left) (and-byte 148 (all-written numbers) 10 .written)
 
 pub put-refusal-spec : {M : Type 1} → statement M
 put-refusal-spec =
     tie.close
     (tie.spec
-    too-short-requires
+    lacks-room-requires
     returns
-    put-byte-requires
+    slice-write-out
+    add-put-natural
     put-natural-requires
     put-natural-requires-2
-    put-byte-requires-2
+    slice-write-out-2
+    add-result
     same-length
     returns-2)

@@ -1,77 +1,89 @@
 -- `printing::put_sheet` meets its contract: where there is room for the longest line, each piece is written after the one before.
 use Prim.Native.Nat.{_+_, _^_, _≤_, _<_}
-use mathlib.Core.List.{[], _∷_, _++_}
+use mathlib.Core.Path.{_∙_}
+use mathlib.Core.List.{_∷_, _++_}
 use native.Mathlib.Omega.{arith}
 use borrow.Author.Needs.{needs}
 use lib.IntN.{pos}
-use lib.ListN.{length, length-append}
+use lib.ListN.{length}
 use mir.Syntax.{w32}
 use mir.Val.{Fits}
-use Rattle.outline.specs.private.Fit.{Fit}
-use Rattle.printing.specs.Output.{field, figuresText, sheetLine}
-use Rattle.printing.proofs.LineLengths.{wide, fit-wide, sheet-length}
-use Rattle.printing.specs.Buffer.{Written}
-use Rattle.printing.proofs.PutLaws.{then, next-fits, same-size, not-written, line-written, has-room}
+use Rattle.decimals.specs.Decimal.{field, fieldRoom}
+use Rattle.decimals.proofs.BufferLaws.{SoFar, none-yet, and-if-room, and-byte, and-last, room-left, has-room, not-written, text-written}
+use Rattle.decimals.proofs.FieldLaws.{natural-length}
+use Rattle.printing.specs.Output.{sheetLine}
+use Rattle.printing.specs.Buffer.{lineRoom, fitting}
 use Rattle.printing.proofs.put_sheet.Statement.{statement}
 use Rattle.printing.proofs.put_sheet.Tie as tie
 
-small-count : (s : tie.Start) → s .args .s .count < 2 ^ 32
+-- ---- the places, each from the next: where there is room, after the sheet's count
+
+abbrev entry : tie.Else1 → tie.Start
+entry c = c .before .before .before
+
+abbrev roomy-of : tie.After-put-natural → tie.Else1
+roomy-of c = c .before .before .before .before
+
+abbrev count-of : tie.After-put-figures → tie.After-put-natural
+count-of c = c .before .before .before .before
+
+-- ---- what is written there
+
+small-count : (s : tie.Start) → s .args .s .count < 10 ^ 10
 small-count s = let f : Fits w32 (s .args .s .count) = search needs in omega arith
 
-wide-totals : (s : tie.Start) → Fit wide (s .args .s .totals)
-wide-totals s = fit-wide (s .args .s .totals) (search needs) (search needs) (search needs) (search needs) (search needs) (search needs)
+roomy : (c : tie.Else1) → entry c .args .at + lineRoom ≤ length (entry c .args .out .now)
+roomy c = let s = entry c in has-room lineRoom (s .args .out .now) (s .args .at) (c .before .lacks-room .ensures) (c .if1 .left)
 
--- There is room for the whole line.
-room : (c : tie.Else1) → (let s = c .before .before .before in s .args .at + length (sheetLine (s .args .s)) ≤ length (s .args .out .now))
-room c = let s = c .before .before .before in omega (arith, has-room (s .args .out .now) (s .args .at) (c .before .too-short .ensures) (c .if1 .left), sheet-length (s .args .s) (small-count s) (wide-totals s))
+count-written : (c : tie.After-put-natural) → (let s = entry (roomy-of c) in SoFar (s .args .out .now) (s .args .at) (83 ∷ field (pos (s .args .s .count))) (c .put-natural .last .0) (c .put-natural .result) 180)
+count-written c =
+    let e = roomy-of c in
+    let s = entry e in
+    let mark = and-byte 191 (none-yet (s .args .out .now) (s .args .at) lineRoom (roomy e)) 83 in
+    and-if-room 11 180 mark fieldRoom (field (pos (s .args .s .count))) (omega arith) (natural-length 9 (s .args .s .count) (small-count s)) (c .put-natural .ensures)
 
-pieces : (c : tie.Else1) → (let s = c .before .before .before in s .args .at + (1 + length (field (pos (s .args .s .count))) + length (figuresText (s .args .s .totals))) ≤ length (s .args .out .now))
-unfolding sheetLine
-pieces c = omega (arith, length-append (83 ∷ field (pos (c .before .before .before .args .s .count))) (figuresText (c .before .before .before .args .s .totals)), room c)
-
--- What is written after each piece.
-written-2 : (c : tie.After-put-natural) → (let s = c .before .before .before .before .before .before .before .before .before .before .before in Written (s .args .out .now) (s .args .at) ((83 ∷ []) ++ field (pos (s .args .s .count))) (c .put-natural .last .0) (c .put-natural .result))
-written-2 c = then (omega (arith, pieces (c .before .before .before .before .before .before .before .before))) (c .before .before .before .before .before .put-byte .ensures) (c .put-natural .ensures)
-
-written-3 : (c : tie.After-put-figures) → (let s = c .before .before .before .before .before .before .before .before .before .before .before .before .before .before .before in Written (s .args .out .now) (s .args .at) ((83 ∷ []) ++ field (pos (s .args .s .count)) ++ figuresText (s .args .s .totals)) (c .put-figures .last .0) (c .put-figures .result))
-written-3 c = then (omega (arith, pieces (c .before .before .before .before .before .before .before .before .before .before .before .before))) (written-2 (c .before .before .before .before)) (c .put-figures .ensures)
-
-too-short-requires : tie.Need-too-short-requires
-too-short-requires c κs = search needs
+lacks-room-requires : tie.Need-lacks-room-requires
+lacks-room-requires c κs = search needs
 
 returns : tie.Need-returns
-returns c = let s = c .before .before .before in not-written (s .args .out .now) (s .args .at) (sheetLine (s .args .s)) (c .before .too-short .ensures) (c .if1 .taken)
+unfolding fitting
+returns c = let s = c .before .before .before in not-written lineRoom (s .args .out .now) (s .args .at) (c .before .lacks-room .ensures) (sheetLine (s .args .s)) (c .if1 .taken)
+
+slice-write-out : tie.Need-slice-write-out
+slice-write-out c = omega (arith, roomy (c .before))
+
+add-put-natural : tie.Need-add-put-natural
+add-put-natural c = let inside = slice-write-out (c .before) in search needs
 
 cast-put-natural : tie.Need-cast-put-natural
 cast-put-natural c = search needs
 
-put-byte-requires : tie.Need-put-byte-requires
-put-byte-requires c κs = omega (arith, pieces (c .before .before))
-
 put-natural-requires : tie.Need-put-natural-requires
-put-natural-requires c κs = let s = c .before .before .before .before .before .before .before .before .before .before in next-fits (c .before .before .before .before .put-byte .ensures) (field (pos (s .args .s .count))) (omega (arith, pieces (c .before .before .before .before .before .before .before)))
+put-natural-requires c κs = search needs
 
 put-figures-requires : tie.Need-put-figures-requires
-put-figures-requires c κs = let s = c .before .before .before .before .before .before .before .before .before .before .before .before .before .before in next-fits (written-2 (c .before .before .before)) (figuresText (s .args .s .totals)) (omega (arith, length-append ((83 ∷ []) ++ field (pos (s .args .s .count))) (figuresText (s .args .s .totals)), pieces (c .before .before .before .before .before .before .before .before .before .before .before)))
+put-figures-requires c κs = omega (arith, room-left (count-written (c .before .before .before)))
 
 same-length : tie.Need-same-length
-unfolding sheetLine
-same-length c = same-size (written-3 (c .before .before)) (room (c .before .before .before .before .before .before .before .before .before .before .before .before .before .before))
+same-length c = let all = c .before .before in all .put-figures .kept .0 ∙ count-written (count-of all) .size
 
 returns-2 : tie.Need-returns-2
-unfolding sheetLine
+unfolding fitting sheetLine
 returns-2 c =
-    let e = c .before .before .before .before .before .before .before .before .before .before .before .before .before .before in
-    let s = e .before .before .before in
-    line-written (s .args .out .now) (s .args .at) (sheetLine (s .args .s)) (e .before .too-short .ensures) (e .if1 .left) (written-3 (c .before .before))
+    let all = c .before .before in
+    let count = count-of all in
+    let e = roomy-of count in
+    let s = entry e in
+    text-written lineRoom (s .args .out .now) (s .args .at) (e .before .lacks-room .ensures) (sheetLine (s .args .s)) (e .if1 .left) (and-last (count-written count) (all .put-figures .ensures))
 
 pub put-sheet-spec : {M : Type 1} → statement M
 put-sheet-spec =
     tie.close
     (tie.spec
-    too-short-requires
+    lacks-room-requires
     returns
-    put-byte-requires
+    slice-write-out
+    add-put-natural
     cast-put-natural
     put-natural-requires
     put-figures-requires

@@ -6,7 +6,8 @@ use mathlib.Core.List.{List}
 use lib.Dec.{ltb}
 use lib.ListN.{length}
 use Rattle.outline.specs.declared.Sheet.{Sheet}
-use Rattle.printing.specs.Buffer.{lineRoom, overwritten}
+use Rattle.printing.specs.Buffer.{lineRoom}
+use Rattle.decimals.specs.Buffer.{overwritten}
 use Rattle.text_program.specs.declared.State.{State}
 use Rattle.text_program.specs.Stream.{Step, halted, step}
 use Rattle.stream.specs.declared.Stepped.{Stepped}

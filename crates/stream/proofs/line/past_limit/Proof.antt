@@ -5,7 +5,7 @@ use native.Mathlib.Omega.{arith}
 use borrow.Author.Needs.{needs}
 use borrow.Author.Tests.{lt-ltb}
 use lib.Dec.{ltb}
-use Rattle.printing.proofs.Cases.{difference-test}
+use Rattle.integers.proofs.Cases.{difference-test}
 use Rattle.stream.proofs.line.past_limit.Statement.{statement}
 use Rattle.stream.proofs.line.past_limit.Tie as tie
 

@@ -1,0 +1,4 @@
+pub mod BufferLaws
+pub mod FieldLaws
+mod DigitLaws
+mod SignLaws

@@ -1,0 +1,36 @@
+-- `digits::up_to_twenty` meets its contract: as the smaller number, or as what stands before its last 8 digits and those.
+use native.Mathlib.Omega.{arith}
+use borrow.Author.Needs.{needs}
+use Rattle.decimals.proofs.DigitLaws.{shorter, rest-fits, number-written}
+use Rattle.decimals.proofs.digits.up_to_twenty.Statement.{statement}
+use Rattle.decimals.proofs.digits.up_to_twenty.Tie as tie
+
+up-to-eight-requires : tie.Need-up-to-eight-requires
+up-to-eight-requires c κs = search needs
+
+same-length : tie.Need-same-length
+same-length c = search needs
+
+returns : tie.Need-returns
+returns c = search needs
+
+up-to-sixteen-requires : tie.Need-up-to-sixteen-requires
+up-to-sixteen-requires c κs = let s = c .before .before .before in (omega arith, omega (arith, s .pre, shorter 8 (s .args .n) (omega arith)))
+
+eight-digits-requires : tie.Need-eight-digits-requires
+eight-digits-requires c κs =
+    let first = c .before .before .before in
+    let s = first .before .before .before .before in
+    (omega arith, rest-fits 8 (s .args .n) (omega arith) (s .pre) (first .up-to-sixteen .ensures))
+
+same-length-2 : tie.Need-same-length-2
+same-length-2 c = search needs
+
+returns-2 : tie.Need-returns-2
+returns-2 c =
+    let first = c .before .before .before .before .before .before in
+    let s = first .before .before .before .before in
+    number-written 8 (s .args .n) (omega arith) (s .pre) (first .up-to-sixteen .ensures) (c .before .before .eight-digits .ensures)
+
+pub up-to-twenty-spec : {M : Type 1} → statement M
+up-to-twenty-spec = tie.close (tie.spec up-to-eight-requires same-length returns up-to-sixteen-requires eight-digits-requires same-length-2 returns-2)

@@ -1,0 +1,70 @@
+// Numbers as decimal digits, written into a buffer that the caller lends. Each answers the place past what it wrote.
+mod digits;
+
+ghost use mathlib.Core.Path.{_≡_};
+ghost use Prim.Native.Nat.{_+_, _≤_};
+ghost use lib.Dec.{ltb};
+ghost use lib.IntN.{pos, natAbs};
+ghost use lib.ListN.{length};
+ghost use Rattle.decimals.specs.Decimal.{signed, field, fieldRoom};
+ghost use Rattle.decimals.specs.Buffer.{ifRoom, Written};
+use digits::up_to_twenty;
+
+// Room for a tab and a number of 64 bits.
+const FIELD_ROOM: usize = 21;
+
+// Whether a buffer of this size has less than this room from `at` on.
+pub fn lacks_room(size: usize, at: usize, room: usize) -> bool
+    ensures { λ r. ⌜ r ≡ ltb size (at + room) ⌝ }
+{
+    if size < room {
+        return true;
+    }
+    size - room < at
+}
+
+// The absolute value, also of the least i64.
+pub fn magnitude(n: i64) -> u64
+    ensures { λ r. ⌜ r ≡ natAbs n ⌝ }
+{
+    if n < 0 {
+        let m = -1 - n;
+        return m as u64 + 1;
+    }
+    n as u64
+}
+
+// The digits of n, after a minus where n is negative.
+fn put_number(out: &mut [u8], at: usize, n: i64) -> usize
+    requires { ⌜ at + length (signed n) ≤ length (now out) ⌝ }
+    ensures { λ r. ⌜ Written (now (out .entry)) at (signed n) (now (out .exit)) r ⌝ }
+{
+    let m = magnitude(n);
+    if n < 0 {
+        out[at] = 45;
+        return up_to_twenty(out, at + 1, m);
+    }
+    up_to_twenty(out, at, m)
+}
+
+// A tab and a number.
+pub fn put_field(out: &mut [u8], at: usize, n: i64) -> usize
+    ensures { λ r. ⌜ Written (now (out .entry)) at (ifRoom fieldRoom (now (out .entry)) at (field n)) (now (out .exit)) r ⌝ }
+{
+    if lacks_room(out.len(), at, FIELD_ROOM) {
+        return at;
+    }
+    out[at] = 9;
+    put_number(out, at + 1, n)
+}
+
+// A tab and a number without a sign.
+pub fn put_natural(out: &mut [u8], at: usize, n: u64) -> usize
+    ensures { λ r. ⌜ Written (now (out .entry)) at (ifRoom fieldRoom (now (out .entry)) at (field (pos n))) (now (out .exit)) r ⌝ }
+{
+    if lacks_room(out.len(), at, FIELD_ROOM) {
+        return at;
+    }
+    out[at] = 9;
+    up_to_twenty(out, at + 1, n)
+}
