@@ -16,13 +16,21 @@ use Rattle.printing.proofs.put_figures.Tie as tie
 wide-totals : (s : tie.Start) → Fit wide (s .args .t)
 wide-totals s = fit-wide (s .args .t) (search needs) (search needs) (search needs) (search needs) (search needs) (search needs)
 
-at-totals : (c : tie.After-put-totals) → (let s = c .before .before .before in SoFar (s .args .out .now) (s .args .at) (totalsText (s .args .t)) (c .put-totals .last .0) (c .put-totals .result) (2 * fieldRoom + 1))
+-- ---- what is written after the totals, and after the centre
+
+abbrev entry : tie.After-put-totals → tie.Start
+entry c = c .before .before .before
+
+abbrev totals-of : tie.After-put-centre → tie.After-put-totals
+totals-of c = c .before .before .before .before
+
+at-totals : (c : tie.After-put-totals) → (let s = entry c in SoFar (s .args .out .now) (s .args .at) (totalsText (s .args .t)) (c .put-totals .last .0) (c .put-totals .result) (2 * fieldRoom + 1))
 at-totals c =
-    let s = c .before .before .before in
+    let s = entry c in
     and-text (6 * fieldRoom) (2 * fieldRoom + 1) (none-yet (s .args .out .now) (s .args .at) (8 * fieldRoom + 1) (s .pre)) (totals-length (s .args .t) (wide-totals s)) (c .put-totals .ensures)
 
-at-centre : (c : tie.After-put-centre) → (let s = c .before .before .before .before .before .before .before in SoFar (s .args .out .now) (s .args .at) (totalsText (s .args .t) ++ centreText (outlineCentroidCall (s .args .t))) (c .put-centre .last .0) (c .put-centre .result) 1)
-at-centre c = let t = c .before .before .before .before in and-text (2 * fieldRoom) 1 (at-totals t) (centre-length (t .before .before .before .args .t)) (c .put-centre .ensures)
+at-centre : (c : tie.After-put-centre) → (let s = entry (totals-of c) in SoFar (s .args .out .now) (s .args .at) (totalsText (s .args .t) ++ centreText (outlineCentroidCall (s .args .t))) (c .put-centre .last .0) (c .put-centre .result) 1)
+at-centre c = let totals = totals-of c in and-text (2 * fieldRoom) 1 (at-totals totals) (centre-length (entry totals .args .t)) (c .put-centre .ensures)
 
 put-totals-requires : tie.Need-put-totals-requires
 put-totals-requires c κs = search needs
