@@ -51,6 +51,7 @@ use Rattle.outline_calls.proofs.walk.PointReply as S
 use Rattle.outline_calls.proofs.walk.PointReply.Laws as S′
 use Rattle.outline_calls.proofs.walk.PointAnswer as R
 use Rattle.outline_calls.proofs.walk.PointAnswer.Laws as R′
+use Rattle.lent_walk.proofs.Values.{vals, reply-vals, answer-vals}
 use Rattle.lent_walk.proofs.point_in as point-in
 use Rattle.lent_walk.proofs.point_in.Symbol as point-in-def
 use Rattle.lent_walk.proofs.point_in.Symbol.{name as #lent-walk·point-in}
@@ -62,15 +63,6 @@ use Rattle.lent_walk.proofs.point_by.Code as code
 
 abbrev stayed : Stays (point-by.ended .signature .params) (point-by.ended .kept)
 stayed = (stay-none (λ _. T.the-row) yes, (stay-none (λ _. i32) yes, (stay-none (λ _. i32) yes, tt)))
-
-abbrev vals : Walk → List Val
-vals = LL.vals T.the-type T′.the-laws
-
-abbrev reply-vals : PointReply → List Val
-reply-vals = LL.vals S.the-type S′.the-laws
-
-abbrev answer-vals : PointAnswer → List Val
-answer-vals = EL.vals R.the-type R′.the-laws
 
 -- the contract that the proof cites
 abbrev PointIn : {M : Type 1} (𝓤 : URA M) (H : Heap 𝓤) (A : Atoms 𝓤) (mem : Memory → SProp 𝓤) (run : Routine → Fun 𝓤) → Contract 𝓤

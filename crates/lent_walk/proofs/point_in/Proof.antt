@@ -46,7 +46,6 @@ use Rattle.outline.proofs.Walk as T
 use Rattle.outline.proofs.Walk.Laws as T′
 use Rattle.outline_calls.specs.WalkAnswers.{pointReading}
 use Rattle.outline_calls.specs.declared.walk.PointReply.{PointReply}
-use Rattle.outline_calls.specs.declared.walk.PointAnswer.{PointAnswer}
 use Rattle.outline_calls.proofs.walk.PointReply as S
 use Rattle.outline_calls.proofs.walk.PointReply.Laws as S′
 use Rattle.outline_calls.proofs.walk.PointAnswer as R
@@ -55,6 +54,7 @@ use Rattle.outline_calls.proofs.point as point
 use Rattle.outline_calls.proofs.point.Symbol as point-def
 use Rattle.outline_calls.proofs.point.Symbol.{name as #outline-calls·point}
 use Rattle.outline_calls.proofs.point.Met as point-thm
+use Rattle.lent_walk.proofs.Values.{vals, answer-vals}
 use Rattle.lent_walk.proofs.point_in.Key.{name as #lent-walk·point-in}
 use Rattle.lent_walk.proofs.point_in as point-in
 use Rattle.lent_walk.proofs.point_in.Statement as stated
@@ -65,16 +65,6 @@ Arg = RefT Walk × (ℤ × (ℤ × Unit {0}))
 
 abbrev stayed : Stays (point-in.ended .signature .params) (point-in.ended .kept)
 stayed = (stay-ref (0 ∷ []) tt (plain (λ _. T.the-row)), (stay-dropped (plain (λ _. i32)) yes, (stay-dropped (plain (λ _. i32)) yes, tt)))
-
--- a walk's machine values, and those of what `point` returns
-abbrev vals : Walk → List Val
-vals = LL.vals T.the-type T′.the-laws
-
-abbrev reply-vals : PointReply → List Val
-reply-vals = LL.vals S.the-type S′.the-laws
-
-abbrev answer-vals : PointAnswer → List Val
-answer-vals = EL.vals R.the-type R′.the-laws
 
 -- the contract that the proof cites
 abbrev PointCall : {M : Type 1} (𝓤 : URA M) (H : Heap 𝓤) (A : Atoms 𝓤) (mem : Memory → SProp 𝓤) (run : Routine → Fun 𝓤) → Contract 𝓤
