@@ -23,8 +23,5 @@ cast-result-2 c = casts _ _ (toZ-ofZ _ _ (c .before .fits .n) ∙ nat (c .before
 returns : tie.Need-returns
 returns c = omega (arith, ap natAbs (down-read (c .before .args .n) (c .before .fits .n) (c .if1 .taken)), ap natAbs (neg (c .before .args .n) (c .before .fits .n) (c .if1 .taken)))
 
-returns-2 : tie.Need-returns-2
-returns-2 c = search needs
-
 pub magnitude-spec : {M : Type 1} → statement M
-magnitude-spec = tie.close (tie.spec sub-m cast-result add-result returns cast-result-2 returns-2)
+magnitude-spec = tie.close (tie.spec sub-m cast-result add-result returns cast-result-2 (λ c. search needs))

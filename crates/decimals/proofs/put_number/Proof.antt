@@ -20,14 +20,8 @@ natural c = let s = c .before .before .before in signed-above (s .args .n) (s .f
 fits : (c : tie.Then1) → (let s = c .before .before .before in s .args .at + length (45 ∷ decimal (c .before .magnitude .result)) ≤ length (s .args .out .now))
 fits c = omega (arith, ap length (negative c), c .before .before .before .pre)
 
-magnitude-requires : tie.Need-magnitude-requires
-magnitude-requires c κs = search needs
-
 slice-write-out : tie.Need-slice-write-out
 slice-write-out c = omega (arith, fits c)
-
-add-up-to-twenty : tie.Need-add-up-to-twenty
-add-up-to-twenty c = search needs
 
 up-to-twenty-requires : tie.Need-up-to-twenty-requires
 up-to-twenty-requires c κs =
@@ -47,9 +41,6 @@ returns c =
 up-to-twenty-requires-2 : tie.Need-up-to-twenty-requires-2
 up-to-twenty-requires-2 c κs = omega (arith, ap length (natural (c .before)), c .before .before .before .before .pre)
 
-same-length-2 : tie.Need-same-length-2
-same-length-2 c = search needs
-
 returns-2 : tie.Need-returns-2
 returns-2 c = rw (natural (c .before .before .before .before)) (c .before .before .up-to-twenty2 .ensures)
 
@@ -57,12 +48,12 @@ pub put-number-spec : {M : Type 1} → statement M
 put-number-spec =
     tie.close
     (tie.spec
-    magnitude-requires
+    (λ c κs. search needs)
     slice-write-out
-    add-up-to-twenty
+    (λ c. search needs)
     up-to-twenty-requires
     same-length
     returns
     up-to-twenty-requires-2
-    same-length-2
+    (λ c. search needs)
     returns-2)

@@ -80,50 +80,17 @@ both-written c =
     let one = and-field fieldRoom none (x bound) (x-fits bound) (first .put-field .ensures) in
     rw (found bound) (and-field 0 one (y bound) (y-fits bound) (c .put-field2 .ensures) .written)
 
-outline-centroid-requires : tie.Need-outline-centroid-requires
-outline-centroid-requires c κs = search needs
-
-enum-known-x : tie.Need-enum-known-x
-enum-known-x c = search needs
-
-slice-write-out : tie.Need-slice-write-out
-slice-write-out c = search needs
-
-add-out : tie.Need-add-out
-add-out c = search needs
-
 slice-write-out-2 : tie.Need-slice-write-out-2
 slice-write-out-2 c = simp length-set (omega (arith, c .before .before .before .pre))
-
-add-out-2 : tie.Need-add-out-2
-add-out-2 c = search needs
 
 slice-write-out-3 : tie.Need-slice-write-out-3
 slice-write-out-3 c = simp length-set (omega (arith, c .before .before .before .pre))
 
-add-out-3 : tie.Need-add-out-3
-add-out-3 c = search needs
-
 slice-write-out-4 : tie.Need-slice-write-out-4
 slice-write-out-4 c = simp length-set (omega (arith, c .before .before .before .pre))
 
-add-result : tie.Need-add-result
-add-result c = search needs
-
-same-length : tie.Need-same-length
-same-length c = search needs
-
 returns : tie.Need-returns
 returns c = let s = c .before .before .before in rw (missing c) (minuses-written (s .args .out .now) (s .args .at) (omega (arith, s .pre)))
-
-put-field-requires : tie.Need-put-field-requires
-put-field-requires c κs = search needs
-
-put-field-requires-2 : tie.Need-put-field-requires-2
-put-field-requires-2 c κs = search needs
-
-same-length-2 : tie.Need-same-length-2
-same-length-2 c = search needs
 
 returns-2 : tie.Need-returns-2
 returns-2 c = both-written (c .before .before)
@@ -132,19 +99,19 @@ pub put-centre-spec : {M : Type 1} → statement M
 put-centre-spec =
     tie.close
     (tie.spec
-    outline-centroid-requires
-    enum-known-x
-    slice-write-out
-    add-out
+    (λ c κs. search needs)
+    (λ c. search needs)
+    (λ c. search needs)
+    (λ c. search needs)
     slice-write-out-2
-    add-out-2
+    (λ c. search needs)
     slice-write-out-3
-    add-out-3
+    (λ c. search needs)
     slice-write-out-4
-    add-result
-    same-length
+    (λ c. search needs)
+    (λ c. search needs)
     returns
-    put-field-requires
-    put-field-requires-2
-    same-length-2
+    (λ c κs. search needs)
+    (λ c κs. search needs)
+    (λ c. search needs)
     returns-2)

@@ -32,9 +32,6 @@ at-totals c =
 at-centre : (c : tie.After-put-centre) → (let s = entry (totals-of c) in SoFar (s .args .out .now) (s .args .at) (totalsText (s .args .t) ++ centreText (outlineCentroidCall (s .args .t))) (c .put-centre .last .0) (c .put-centre .result) 1)
 at-centre c = let totals = totals-of c in and-text (2 * fieldRoom) 1 (at-totals totals) (centre-length (entry totals .args .t)) (c .put-centre .ensures)
 
-put-totals-requires : tie.Need-put-totals-requires
-put-totals-requires c κs = search needs
-
 put-centre-requires : tie.Need-put-centre-requires
 put-centre-requires c κs = omega (arith, room-left (at-totals (c .before .before .before)))
 
@@ -51,4 +48,4 @@ returns : tie.Need-returns
 returns c = and-byte 0 (at-centre (c .before .before)) 10 .written
 
 pub put-figures-spec : {M : Type 1} → statement M
-put-figures-spec = tie.close (tie.spec put-totals-requires put-centre-requires slice-write-out add-result same-length returns)
+put-figures-spec = tie.close (tie.spec (λ c κs. search needs) put-centre-requires slice-write-out add-result same-length returns)

@@ -42,9 +42,6 @@ counts-written c =
     let number = and-if-room 11 180 mark fieldRoom (field (pos (s .args .outlines))) (omega arith) (natural-length 9 (s .args .outlines) (omega (arith, s .fits .outlines))) (n .put-natural .ensures) in
     and-if-room 11 (8 * fieldRoom + 1) number fieldRoom (field (pos (s .args .points))) (omega arith) (natural-length 9 (s .args .points) (omega (arith, s .fits .points))) (c .put-natural2 .ensures)
 
-lacks-room-requires : tie.Need-lacks-room-requires
-lacks-room-requires c κs = search needs
-
 returns : tie.Need-returns
 unfolding fitting
 returns c = let s = c .before .before .before in not-written lineRoom (s .args .out .now) (s .args .at) (c .before .lacks-room .ensures) (outlineLine (s .args .outlines) (s .args .points) (s .args .t)) (c .if1 .taken)
@@ -54,12 +51,6 @@ slice-write-out c = omega (arith, roomy c)
 
 add-put-natural : tie.Need-add-put-natural
 add-put-natural c = let inside = slice-write-out (c .before) in search needs
-
-put-natural-requires : tie.Need-put-natural-requires
-put-natural-requires c κs = search needs
-
-put-natural-requires-2 : tie.Need-put-natural-requires-2
-put-natural-requires-2 c κs = search needs
 
 put-figures-requires : tie.Need-put-figures-requires
 put-figures-requires c κs = room-left (counts-written (c .before .before .before))
@@ -80,12 +71,12 @@ pub put-outline-spec : {M : Type 1} → statement M
 put-outline-spec =
     tie.close
     (tie.spec
-    lacks-room-requires
+    (λ c κs. search needs)
     returns
     slice-write-out
     add-put-natural
-    put-natural-requires
-    put-natural-requires-2
+    (λ c κs. search needs)
+    (λ c κs. search needs)
     put-figures-requires
     same-length
     returns-2)

@@ -38,9 +38,6 @@ all-written c =
     let line = and-if-room fieldRoom 170 mark fieldRoom (field (pos (s .args .line))) (omega arith) (natural-fits (s .args .line) (s .fits .line)) (l .put-natural .ensures) in
     and-if-room fieldRoom 149 line fieldRoom (field (pos (s .args .number))) (omega arith) (natural-fits (s .args .number) (s .fits .number)) (c .put-natural2 .ensures)
 
-lacks-room-requires : tie.Need-lacks-room-requires
-lacks-room-requires c κs = search needs
-
 returns : tie.Need-returns
 unfolding fitting
 returns c = let s = c .before .before .before in not-written lineRoom (s .args .out .now) (s .args .at) (c .before .lacks-room .ensures) (refusalLine (s .args .line) (s .args .number)) (c .if1 .taken)
@@ -50,12 +47,6 @@ slice-write-out c = omega (arith, roomy c)
 
 add-put-natural : tie.Need-add-put-natural
 add-put-natural c = let inside = slice-write-out (c .before) in search needs
-
-put-natural-requires : tie.Need-put-natural-requires
-put-natural-requires c κs = search needs
-
-put-natural-requires-2 : tie.Need-put-natural-requires-2
-put-natural-requires-2 c κs = search needs
 
 slice-write-out-2 : tie.Need-slice-write-out-2
 slice-write-out-2 c = omega (arith, room-left (all-written (c .before .before)))
@@ -78,12 +69,12 @@ pub put-refusal-spec : {M : Type 1} → statement M
 put-refusal-spec =
     tie.close
     (tie.spec
-    lacks-room-requires
+    (λ c κs. search needs)
     returns
     slice-write-out
     add-put-natural
-    put-natural-requires
-    put-natural-requires-2
+    (λ c κs. search needs)
+    (λ c κs. search needs)
     slice-write-out-2
     add-result
     same-length

@@ -42,9 +42,6 @@ count-written c =
     let mark = and-byte 191 (none-yet (s .args .out .now) (s .args .at) lineRoom (roomy e)) 83 in
     and-if-room 11 180 mark fieldRoom (field (pos (s .args .s .count))) (omega arith) (natural-length 9 (s .args .s .count) (small-count s)) (c .put-natural .ensures)
 
-lacks-room-requires : tie.Need-lacks-room-requires
-lacks-room-requires c κs = search needs
-
 returns : tie.Need-returns
 unfolding fitting
 returns c = let s = c .before .before .before in not-written lineRoom (s .args .out .now) (s .args .at) (c .before .lacks-room .ensures) (sheetLine (s .args .s)) (c .if1 .taken)
@@ -54,12 +51,6 @@ slice-write-out c = omega (arith, roomy (c .before))
 
 add-put-natural : tie.Need-add-put-natural
 add-put-natural c = let inside = slice-write-out (c .before) in search needs
-
-cast-put-natural : tie.Need-cast-put-natural
-cast-put-natural c = search needs
-
-put-natural-requires : tie.Need-put-natural-requires
-put-natural-requires c κs = search needs
 
 put-figures-requires : tie.Need-put-figures-requires
 put-figures-requires c κs = omega (arith, room-left (count-written (c .before .before .before)))
@@ -80,12 +71,12 @@ pub put-sheet-spec : {M : Type 1} → statement M
 put-sheet-spec =
     tie.close
     (tie.spec
-    lacks-room-requires
+    (λ c κs. search needs)
     returns
     slice-write-out
     add-put-natural
-    cast-put-natural
-    put-natural-requires
+    (λ c. search needs)
+    (λ c κs. search needs)
     put-figures-requires
     same-length
     returns-2)

@@ -5,17 +5,11 @@ use Rattle.decimals.proofs.DigitLaws.{half-fits, halves-written}
 use Rattle.decimals.proofs.digits.four_digits.Statement.{statement}
 use Rattle.decimals.proofs.digits.four_digits.Tie as tie
 
-two-digits-requires : tie.Need-two-digits-requires
-two-digits-requires c κs = search needs
-
 two-digits-requires-2 : tie.Need-two-digits-requires-2
 two-digits-requires-2 c κs =
     let half = c .before .before .before in
     let s = half .before .before .before in
     (omega arith, half-fits 2 (s .args .n) (s .pre .1) (half .two-digits .ensures))
-
-same-length : tie.Need-same-length
-same-length c = search needs
 
 returns : tie.Need-returns
 returns c =
@@ -24,4 +18,4 @@ returns c =
     halves-written 2 (s .args .n) (s .pre .1) (half .two-digits .ensures) (c .before .before .two-digits2 .ensures)
 
 pub four-digits-spec : {M : Type 1} → statement M
-four-digits-spec = tie.close (tie.spec two-digits-requires two-digits-requires-2 same-length returns)
+four-digits-spec = tie.close (tie.spec (λ c κs. search needs) two-digits-requires-2 (λ c. search needs) returns)

@@ -5,15 +5,6 @@ use Rattle.decimals.proofs.DigitLaws.{shorter, rest-fits, number-writte
 use Rattle.decimals.proofs.digits.up_to_four.Statement.{statement}
 use Rattle.decimals.proofs.digits.up_to_four.Tie as tie
 
-up-to-two-requires : tie.Need-up-to-two-requires
-up-to-two-requires c κs = search needs
-
-same-length : tie.Need-same-length
-same-length c = search needs
-
-returns : tie.Need-returns
-returns c = search needs
-
 up-to-two-requires-2 : tie.Need-up-to-two-requires-2
 up-to-two-requires-2 c κs = let s = c .before .before .before in (omega (arith, s .pre .0), omega (arith, s .pre .1, shorter 2 (s .args .n) (omega arith)))
 
@@ -23,9 +14,6 @@ two-digits-requires c κs =
     let s = first .before .before .before .before in
     (omega arith, rest-fits 2 (s .args .n) (omega arith) (s .pre .1) (first .up-to-two2 .ensures))
 
-same-length-2 : tie.Need-same-length-2
-same-length-2 c = search needs
-
 returns-2 : tie.Need-returns-2
 returns-2 c =
     let first = c .before .before .before .before .before .before in
@@ -33,4 +21,4 @@ returns-2 c =
     number-written 2 (s .args .n) (omega arith) (s .pre .1) (first .up-to-two2 .ensures) (c .before .before .two-digits .ensures)
 
 pub up-to-four-spec : {M : Type 1} → statement M
-up-to-four-spec = tie.close (tie.spec up-to-two-requires same-length returns up-to-two-requires-2 two-digits-requires same-length-2 returns-2)
+up-to-four-spec = tie.close (tie.spec (λ c κs. search needs) (λ c. search needs) (λ c. search needs) up-to-two-requires-2 two-digits-requires (λ c. search needs) returns-2)

@@ -8,20 +8,8 @@ use Rattle.decimals.proofs.DigitLaws.{one-digit, last-length, two-digit
 use Rattle.decimals.proofs.digits.up_to_two.Statement.{statement}
 use Rattle.decimals.proofs.digits.up_to_two.Tie as tie
 
-cast-out : tie.Need-cast-out
-cast-out c = search needs
-
-add-out : tie.Need-add-out
-add-out c = search needs
-
 slice-write-out : tie.Need-slice-write-out
 slice-write-out c = let s = c .before .before in omega (arith, s .pre .1, ap length (one-digit (s .args .n) (c .if1 .taken)))
-
-add-result : tie.Need-add-result
-add-result c = search needs
-
-same-length : tie.Need-same-length
-same-length c = search needs
 
 returns : tie.Need-returns
 returns c = let s = c .before .before in rw (one-digit (s .args .n) (c .if1 .taken)) (byte-written (s .args .out .now) (s .args .at) _ (slice-write-out c))
@@ -29,11 +17,8 @@ returns c = let s = c .before .before in rw (one-digit (s .args .n) (c .if1 .tak
 two-digits-requires : tie.Need-two-digits-requires
 two-digits-requires c κs = let s = c .before .before .before in (s .pre .0, omega (arith, s .pre .1, ap length (two-digits (s .args .n) (omega arith) (s .pre .0)), last-length 2 (s .args .n)))
 
-same-length-2 : tie.Need-same-length-2
-same-length-2 c = search needs
-
 returns-2 : tie.Need-returns-2
 returns-2 c = let s = c .before .before .before .before .before .before in rw (two-digits (s .args .n) (omega arith) (s .pre .0)) (c .before .before .two-digits .ensures)
 
 pub up-to-two-spec : {M : Type 1} → statement M
-up-to-two-spec = tie.close (tie.spec cast-out add-out slice-write-out add-result same-length returns two-digits-requires same-length-2 returns-2)
+up-to-two-spec = tie.close (tie.spec (λ c. search needs) (λ c. search needs) slice-write-out (λ c. search needs) (λ c. search needs) returns two-digits-requires (λ c. search needs) returns-2)
