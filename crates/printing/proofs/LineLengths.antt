@@ -1,12 +1,10 @@
 -- How long the lines of the output can get: none is longer than `lineRoom`, where the counts are of 32 bits and the totals of 64.
-use Prim.Native.Nat.{ℕ, zero, suc, _+_, _*_, _^_, _/_, _%_, _≤_, _<_}
-use mathlib.Core.List.{[], _∷_, _++_}
+use Prim.Native.Nat.{ℕ, zero, suc, _+_, _*_, _^_, _≤_, _<_}
 use native.Mathlib.Omega.{arith}
 use lib.ListN.{length, length-append}
 use lib.IntN.{ℤ, pos, negsuc, negℤ, natAbs, _+ℤ_}
 use lib.Signed.{ltZ}
-use lib.Dec.{eqb, ltb}
-use borrow.Author.Tests.{lt-ltb}
+use lib.Dec.{eqb}
 use Rattle.integers.proofs.Order.{pp, nn, pp-neg, nn-neg, sum-parts, natAbs-neg}
 use mir.Syntax.{w64}
 use mir.Val.{SFits}
@@ -19,7 +17,6 @@ use Rattle.outline.specs.MapCall.{totalLimits}
 use Rattle.outline.specs.private.Fit.{Fit}
 use Rattle.outline.proofs.Limits.{exceed-fit}
 use Rattle.centroid.specs.Centroid.{CentroidOutcome, isCentre, firstCentre, centre, centred, signedBy, outlineCentroidCall}
-use Rattle.decimals.specs.Decimal.{field}
 use Rattle.decimals.proofs.FieldLaws.{natural-length, field-length}
 use Rattle.printing.specs.Output.{totalsText, centreText, outlineLine, refusalLine, sheetLine}
 use Rattle.printing.specs.Buffer.{lineRoom}

@@ -1,5 +1,5 @@
 -- `decimals::magnitude` meets its contract: a negative number is read as -1 - n, which fits where -n need not.
-use mathlib.Core.Path.{_≡_, ap, _∙_}
+use mathlib.Core.Path.{ap, _∙_}
 use native.Mathlib.Omega.{arith}
 use borrow.Author.Needs.{needs}
 use lib.IntN.{natAbs}

@@ -18,7 +18,7 @@ use Rattle.centroid.specs.Centroid.{outlineCentroidCall}
 use Rattle.centroid.specs.Answers.{reading}
 use Rattle.decimals.specs.Decimal.{field, fieldRoom}
 use Rattle.decimals.specs.Buffer.{Written}
-use Rattle.decimals.proofs.BufferLaws.{SoFar, none-yet, and-byte}
+use Rattle.decimals.proofs.BufferLaws.{none-yet, and-byte}
 use Rattle.decimals.proofs.FieldLaws.{and-field}
 use Rattle.printing.specs.Output.{centreText}
 use Rattle.printing.proofs.put_centre.Statement.{statement}

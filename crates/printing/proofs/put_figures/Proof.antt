@@ -1,6 +1,5 @@
 -- `printing::put_figures` meets its contract: each piece is written after the one before.
 use Prim.Native.Nat.{_+_, _*_}
-use mathlib.Core.Path.{_∙_}
 use mathlib.Core.List.{_++_}
 use native.Mathlib.Omega.{arith}
 use borrow.Author.Needs.{needs}

@@ -33,6 +33,7 @@ points-of c = c .before .before .before .before
 roomy : (c : tie.Else1) → entry c .args .at + lineRoom ≤ length (entry c .args .out .now)
 roomy c = let s = entry c in has-room lineRoom (s .args .out .now) (s .args .at) (c .before .lacks-room .ensures) (c .if1 .left)
 
+-- Of the 192 bytes 1 is for the mark, 11 for each count, of 32 bits, with its tab, and 169 for the figures.
 counts-written : (c : tie.After-put-natural2) → (let s = entry (roomy-of (number-of c)) in SoFar (s .args .out .now) (s .args .at) (79 ∷ field (pos (s .args .outlines)) ++ field (pos (s .args .points))) (c .put-natural2 .last .0) (c .put-natural2 .result) (8 * fieldRoom + 1))
 counts-written c =
     let n = number-of c in

@@ -1,5 +1,5 @@
 -- `printing::put_refusal` meets its contract: where there is room for the longest line, each piece is written after the one before.
-use Prim.Native.Nat.{_+_, _≤_}
+use Prim.Native.Nat.{_+_, _*_, _≤_}
 use mathlib.Core.List.{_∷_, _++_}
 use native.Mathlib.Omega.{arith}
 use borrow.Author.Needs.{needs}
@@ -29,14 +29,15 @@ entry c = c .before .before .before
 roomy : (c : tie.Else1) → entry c .args .at + lineRoom ≤ length (entry c .args .out .now)
 roomy c = let s = entry c in has-room lineRoom (s .args .out .now) (s .args .at) (c .before .lacks-room .ensures) (c .if1 .left)
 
-all-written : (c : tie.After-put-natural2) → (let s = entry (roomy-of (line-of c)) in SoFar (s .args .out .now) (s .args .at) (82 ∷ field (pos (s .args .line)) ++ field (pos (s .args .number))) (c .put-natural2 .last .0) (c .put-natural2 .result) 149)
-all-written c =
+numbers-written : (c : tie.After-put-natural2) → (let s = entry (roomy-of (line-of c)) in SoFar (s .args .out .now) (s .args .at) (82 ∷ field (pos (s .args .line)) ++ field (pos (s .args .number))) (c .put-natural2 .last .0) (c .put-natural2 .result) 1)
+numbers-written c =
     let l = line-of c in
     let e = roomy-of l in
     let s = entry e in
-    let mark = and-byte 191 (none-yet (s .args .out .now) (s .args .at) lineRoom (roomy e)) 82 in
-    let line = and-if-room fieldRoom 170 mark fieldRoom (field (pos (s .args .line))) (omega arith) (natural-fits (s .args .line) (s .fits .line)) (l .put-natural .ensures) in
-    and-if-room fieldRoom 149 line fieldRoom (field (pos (s .args .number))) (omega arith) (natural-fits (s .args .number) (s .fits .number)) (c .put-natural2 .ensures)
+    let none = none-yet (s .args .out .now) (s .args .at) (2 * fieldRoom + 2) (omega (arith, roomy e)) in
+    let mark = and-byte (2 * fieldRoom + 1) none 82 in
+    let line = and-if-room fieldRoom (fieldRoom + 1) mark fieldRoom (field (pos (s .args .line))) (omega arith) (natural-fits (s .args .line) (s .fits .line)) (l .put-natural .ensures) in
+    and-if-room fieldRoom 1 line fieldRoom (field (pos (s .args .number))) (omega arith) (natural-fits (s .args .number) (s .fits .number)) (c .put-natural2 .ensures)
 
 returns : tie.Need-returns
 unfolding fitting
@@ -49,13 +50,13 @@ add-put-natural : tie.Need-add-put-natural
 add-put-natural c = let inside = slice-write-out (c .before) in search needs
 
 slice-write-out-2 : tie.Need-slice-write-out-2
-slice-write-out-2 c = omega (arith, room-left (all-written (c .before .before)))
+slice-write-out-2 c = omega (arith, room-left (numbers-written (c .before .before)))
 
 add-result : tie.Need-add-result
-add-result c = let so-far = all-written (c .before .before) in search needs
+add-result c = let so-far = numbers-written (c .before .before) in search needs
 
 same-length : tie.Need-same-length
-same-length c = and-byte 148 (all-written (c .before .before)) 10 .size
+same-length c = and-byte 0 (numbers-written (c .before .before)) 10 .size
 
 returns-2 : tie.Need-returns-2
 unfolding fitting refusalLine
@@ -63,7 +64,7 @@ returns-2 c =
     let numbers = c .before .before in
     let e = roomy-of (line-of numbers) in
     let s = entry e in
-    text-written lineRoom (s .args .out .now) (s .args .at) (e .before .lacks-room .ensures) (refusalLine (s .args .line) (s .args .number)) (e .if1 .left) (and-byte 148 (all-written numbers) 10 .written)
+    text-written lineRoom (s .args .out .now) (s .args .at) (e .before .lacks-room .ensures) (refusalLine (s .args .line) (s .args .number)) (e .if1 .left) (and-byte 0 (numbers-written numbers) 10 .written)
 
 pub put-refusal-spec : {M : Type 1} → statement M
 put-refusal-spec =

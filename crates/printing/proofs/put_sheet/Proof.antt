@@ -1,7 +1,7 @@
 -- `printing::put_sheet` meets its contract: where there is room for the longest line, each piece is written after the one before.
 use Prim.Native.Nat.{_+_, _^_, _≤_, _<_}
 use mathlib.Core.Path.{_∙_}
-use mathlib.Core.List.{_∷_, _++_}
+use mathlib.Core.List.{_∷_}
 use native.Mathlib.Omega.{arith}
 use borrow.Author.Needs.{needs}
 use lib.IntN.{pos}
@@ -35,6 +35,7 @@ small-count s = let f : Fits w32 (s .args .s .count) = search needs in omega ari
 roomy : (c : tie.Else1) → entry c .args .at + lineRoom ≤ length (entry c .args .out .now)
 roomy c = let s = entry c in has-room lineRoom (s .args .out .now) (s .args .at) (c .before .lacks-room .ensures) (c .if1 .left)
 
+-- Of the 192 bytes 1 is for the mark and 11 for the count, of 32 bits, with its tab.
 count-written : (c : tie.After-put-natural) → (let s = entry (roomy-of c) in SoFar (s .args .out .now) (s .args .at) (83 ∷ field (pos (s .args .s .count))) (c .put-natural .last .0) (c .put-natural .result) 180)
 count-written c =
     let e = roomy-of c in

@@ -1,10 +1,9 @@
 -- `printing::put_totals` meets its contract: each field is written after the one before.
 use Prim.Native.Nat.{_*_}
-use mathlib.Core.List.{_++_}
 use borrow.Author.Needs.{needs}
 use mir.Syntax.{w64}
 use mir.Val.{SFits}
-use Rattle.decimals.specs.Decimal.{field, fieldRoom}
+use Rattle.decimals.specs.Decimal.{fieldRoom}
 use Rattle.decimals.proofs.BufferLaws.{SoFar, none-yet}
 use Rattle.decimals.proofs.FieldLaws.{and-field}
 use Rattle.printing.specs.Output.{totalsText}
