@@ -5,21 +5,24 @@ use mathlib.Core.Bool.{Bool, true, false, cond}
 use mathlib.Core.List.{List, [], _++_, append-assoc}
 use native.Mathlib.Omega.{arith}
 use lib.Dec.{ltb}
+use borrow.Author.Tests.{le-ltb, ltb-false}
 use lib.ListN.{length, drop, length-append, length-drop}
 use lib.Seq.{drop-drop}
+use Rattle.lines.proofs.NothingWritten.{none-written}
 use Rattle.outline.specs.declared.Sheet.{Sheet}
+use Rattle.printing.specs.Buffer.{lineRoom, fitting}
 use Rattle.decimals.specs.Buffer.{overwritten, Written}
-use Rattle.printing.specs.Buffer.{lineRoom}
 use Rattle.integers.proofs.Cases.{by-cond}
 use Rattle.decimals.proofs.BufferLaws.{then}
 use Rattle.text_program.specs.declared.State.{State}
 use Rattle.text_program.specs.Stream.{Step, halted, followed, step, steps, feedCall}
 use Rattle.text_program.proofs.Progress.{workLeft, StepProgress, stays, less, step-progress, feed-steps}
 use Rattle.text_program.proofs.CallEnds.{step-used}
-use Rattle.stream.proofs.Places.{nothing-written}
-use Rattle.stream.specs.private.Steps.{stepWithRoom}
+use Rattle.chunk_lines.specs.declared.Stepped.{Stepped}
+use Rattle.chunk_lines.specs.Stepping.{Steps}
+use Rattle.stream.specs.private.RoomForLine.{stepWithRoom}
 
--- A step after which `text_program` is written and `used` bytes are taken, and then q.
+-- A step after which `text` is written and `used` bytes are taken, and then q.
 abbrev pub after : List ℕ → ℕ → Step → Step
 after text used q = record { output = text ++ q .output; used = used + q .used; state = q .state; sheet = q .sheet; more = q .more }
 
@@ -53,9 +56,18 @@ module _ (final : Bool) (st : State) (s : Sheet) (chunk : List ℕ) (room : ℕ)
       go q (stays m o e w) = rw m (omega arith)
       go q (less h) = by-cond (λ n. workLeft (q .state) (drop (q .used) chunk) + n < workLeft st chunk + 1) (q .more) (λ m. omega arith) (λ m. omega arith)
 
+-- What a step prints is written whole: where there is no room for the longest line, it prints nothing.
+pub written-whole : (final : Bool) (st : State) (s : Sheet) (chunk out : List ℕ) (to : ℕ) → to ≤ length out → (let text = stepWithRoom final st s chunk (length out - to) .output in fitting out to text ≡ text)
+unfolding fitting stepWithRoom
+written-whole final st s chunk out to h = go (ltb (length out - to) lineRoom) refl
+  where
+    go : (t : Bool) → ltb (length out - to) lineRoom ≡ t → (let text = cond t (halted st s) (step final st s chunk) .output in cond (ltb (length out) (to + lineRoom)) [] text ≡ text)
+    go true e = by-cond (λ (text : List ℕ). text ≡ []) (ltb (length out) (to + lineRoom)) (λ f. refl) (λ f. refl)
+    go false e = rw (le-ltb (length out) (to + lineRoom) (omega (arith, ltb-false (length out - to) lineRoom e)))
+
 -- ---- a call so far
 
--- `text_program` is written and `at` bytes are taken; the whole call is that and what is still to do, if anything is.
+-- `text` is written and `at` bytes are taken; the whole call is that and what is still to do, if anything is.
 pub record SoFar (final : Bool) (st₀ : State) (s₀ : Sheet) (chunk before after-it : List ℕ) (st : State) (s : Sheet) (at to : ℕ) (more : Bool) : Type 0 where
   pub text : List ℕ
   pub place : at ≤ length chunk
@@ -73,7 +85,7 @@ none-yet final st s chunk out =
       text = [];
       place = omega arith;
       long = refl;
-      written = nothing-written out 0;
+      written = none-written out 0;
       whole = ap (λ n. record { output = q .output; used = n; state = q .state; sheet = q .sheet; more = q .more }) used ∙ ap (λ n. after [] 0 (feedCall final st s chunk n)) room;
     }
 
@@ -111,3 +123,16 @@ module _ {final : Bool} {st₀ : State} {s₀ : Sheet} {chunk before out : List 
   -- The place in the buffer is in it.
   pub to-within : to ≤ length out
   to-within = omega (arith, ends-within before (k .text) (ap length (sym (k .written .buffer)) ∙ k .long), k .written .end, k .long)
+
+  -- The step that the code has taken.
+  module _ {out' : List ℕ} {r : Stepped} (h : Steps next out to out' r) where
+    pub step-within : at + r .used ≤ length chunk
+    step-within = rw (h .answer) (omega (arith, takes-within final st s (drop at chunk) (length out - to), length-drop at chunk, k .place))
+
+    pub step-less : workLeft (r .state) (drop (at + r .used) chunk) + cond (r .more) 1 0 < workLeft st (drop at chunk) + 1
+    step-less = rw (h .answer, ← drop-drop) (leaves-less final st s (drop at chunk) (length out - to))
+
+    pub step-more : length out' ≡ length out → SoFar final st₀ s₀ chunk before out' (r .state) (r .sheet) (at + r .used) (r .filled) (r .more)
+    step-more e =
+        let whole = written-whole final st s (drop at chunk) out to to-within in
+        rw (h .answer, whole) (one-more e (record { buffer = rw whole at (h .buffer); end = refl }))

@@ -1,5 +1,2 @@
-pub mod Places
-pub mod FormsRead
-pub mod LineLaws
 pub mod StepLaws
 pub mod FeedLaws

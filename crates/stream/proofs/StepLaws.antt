@@ -11,7 +11,7 @@ use Rattle.outline.specs.declared.Sheet.{Sheet}
 use Rattle.printing.specs.Buffer.{lineRoom}
 use Rattle.text_program.specs.declared.State.{State}
 use Rattle.text_program.specs.Stream.{Step, halted, closing, ending, lineStep, step}
-use Rattle.stream.specs.private.Steps.{stepWithRoom}
+use Rattle.stream.specs.private.RoomForLine.{stepWithRoom}
 
 module _ (final : Bool) (st : State) (s : Sheet) (chunk : List ℕ) (room : ℕ) where
   -- The S line is written, or there is no room for a line.
@@ -61,8 +61,3 @@ module _ (final : Bool) (st : State) (s : Sheet) (chunk : List ℕ) (room : ℕ)
       -- There is a line.
       pub steps-to-line : (not final && eqb (length chunk) 0) ≡ false → stepWithRoom final st s chunk room ≡ lineStep final st s chunk
       steps-to-line e = not-due ∙ rw e
-
--- Line 1,000,001 is 10.
-pub line-too-many : (final : Bool) (st : State) (s : Sheet) (chunk : List ℕ) → 1_000_000 ≤ st .lines → lineStep final st s chunk ≡ ending st s chunk
-unfolding lineStep
-line-too-many final st s chunk h = rw (le-leb 1_000_000 (st .lines) h)

@@ -1,5 +1,4 @@
 // The streaming core of the text program: a chunk of the input at a time, for every state and every chunk.
-mod line;
 mod step;
 
 ghost use mathlib.Core.Path.{_≡_};
@@ -16,15 +15,6 @@ pub struct Fed {
     pub sheet: Sheet,
     pub used: usize,
     pub filled: usize,
-}
-
-// What a step leaves: the places that it has come to in the chunk and in the output, and whether another may follow.
-pub(crate) struct Stepped {
-    pub state: State,
-    pub sheet: Sheet,
-    pub at: usize,
-    pub filled: usize,
-    pub more: bool,
 }
 
 // The state before the first byte.
@@ -57,7 +47,7 @@ pub fn feed(state: State, sheet: Sheet, chunk: &[u8], last: bool, out: &mut [u8]
         let sheet_after = r.sheet;
         s = state_after;
         sh = sheet_after;
-        at = r.at;
+        at += r.used;
         filled = r.filled;
         more = r.more;
     }

@@ -1,25 +1,11 @@
 -- `tell` writes nothing for the number 0.
-use Prim.Native.Nat.{ℕ, _+_}
-use mathlib.Core.Path.{refl, sym}
-use mathlib.Core.List.{List, []}
-use native.Mathlib.Omega.{arith}
-use lib.Dec.{ltb}
-use lib.ListN.{length}
+use mathlib.Core.Path.{refl}
 use borrow.Author.Needs.{needs}
 use borrow.Author.Tests.{eq-eqb, ne-eqb}
 use Rattle.text_program.specs.Program.{carriedWalk}
-use Rattle.printing.specs.Buffer.{lineRoom, fitting}
-use Rattle.decimals.specs.Buffer.{Written}
-use Rattle.integers.proofs.Cases.{by-cond}
-use Rattle.decimals.proofs.BufferLaws.{put-nothing}
+use Rattle.lines.proofs.NothingWritten.{nothing-written}
 use Rattle.lines.proofs.tell.Statement.{statement}
 use Rattle.lines.proofs.tell.Tie as tie
-
-nothing-written : (o : List ℕ) (at : ℕ) → Written o at (fitting o at []) o at
-unfolding fitting
-nothing-written o at =
-    let w : Written o at [] o at = record { buffer = sym (put-nothing o at); end = omega arith } in
-    by-cond (λ text. Written o at text o at) (ltb (length o) (at + lineRoom)) (λ e. w) (λ e. w)
 
 returns : tie.Need-returns
 unfolding carriedWalk

@@ -7,7 +7,7 @@ use borrow.Author.Needs.{needs}
 use lib.ListN.{length, drop}
 use lib.Seq.{drop-drop}
 use Rattle.text_program.proofs.Progress.{workLeft}
-use Rattle.stream.proofs.FeedLaws.{SoFar, none-yet, one-more, to-within, leaves-less}
+use Rattle.stream.proofs.FeedLaws.{SoFar, none-yet, to-within, step-within, step-less, step-more}
 use Rattle.stream.proofs.feed.Statement.{statement}
 use Rattle.stream.proofs.feed.Tie as tie
 
@@ -20,24 +20,40 @@ abbrev μ-loop : tie.MeasureT-loop
 loop-holds : tie.Need-loop-holds Inv-loop μ-loop
 loop-holds c = let s = c .before .before in none-yet (s .args .last) (s .args .state) (s .args .sheet) (s .args .chunk .now) (s .args .out .now)
 
+-- ---- the places of a turn, each from the next: the entry, the loop's head, and the step
+
+abbrev start-of : tie.At-loop Inv-loop μ-loop → tie.Start Inv-loop μ-loop
+start-of c = c .before .before .before
+
+abbrev step-of : tie.After-struct-known Inv-loop μ-loop → tie.After-step Inv-loop μ-loop
+step-of c = c .before .before .before .before .before
+
+-- ---- what is known there
+
 -- What is done where a step is taken.
-so-far : (c : tie.In-loop Inv-loop μ-loop) → (let s = c .before .before .before .before in SoFar (s .args .last) (s .args .state) (s .args .sheet) (s .args .chunk .now) (s .args .out .now) (c .before .loop .out) (c .before .loop .s) (c .before .loop .sh) (c .before .loop .at) (c .before .loop .filled) true)
+so-far : (c : tie.In-loop Inv-loop μ-loop) → (let l = c .before .loop in let a = start-of (c .before) .args in SoFar (a .last) (a .state) (a .sheet) (a .chunk .now) (a .out .now) (l .out) (l .s) (l .sh) (l .at) (l .filled) true)
 so-far c = rw (sym (c .loop-test .taken)) (c .before .loop .inv)
+
+-- ---- the needs
 
 step-requires : tie.Need-step-requires Inv-loop μ-loop
 step-requires c κs = let k = so-far (c .before) in (k .place, to-within k)
 
+add-at : tie.Need-add-at Inv-loop μ-loop
+add-at c =
+    let taken = step-of c in
+    let turn = taken .before .before in
+    omega (arith, step-within (so-far turn) (taken .step .ensures), start-of (turn .before) .good .1 .1 .0)
+
 loop-less : tie.Need-loop-less Inv-loop μ-loop
 loop-less c =
-    let s = c .before .before .before .before .before .before .before .before .before .before in
-    let l = c .before .before .before .before .before .before .before .loop in
-    let a = c .before .before .before .before .step .ensures .answer in
-    rw (a, c .before .before .before .before .before .before .loop-test .taken, ← drop-drop) (leaves-less (s .args .last) (l .s) (l .sh) (drop (l .at) (s .args .chunk .now)) (length (l .out) - l .filled))
+    let taken = step-of c in
+    rw (taken .before .before .loop-test .taken) (step-less (so-far (taken .before .before)) (taken .step .ensures))
 
 loop-again : tie.Need-loop-again Inv-loop μ-loop
 loop-again c =
-    let r = c .before .before .before .before .step in
-    rw (r .ensures .answer) (one-more (so-far (c .before .before .before .before .before .before)) (search needs) (record { buffer = r .ensures .buffer; end = refl }))
+    let taken = step-of c in
+    step-more (so-far (taken .before .before)) (taken .step .ensures) (search needs)
 
 same-length : tie.Need-same-length Inv-loop μ-loop
 same-length c = c .before .loop .inv .long
@@ -52,4 +68,4 @@ returns c =
 pub feed-spec : {M : Type 1} → statement M
 feed-spec =
     tie.close
-    (tie.spec Inv-loop μ-loop loop-holds step-requires loop-less loop-again same-length returns)
+    (tie.spec Inv-loop μ-loop loop-holds step-requires add-at loop-less loop-again same-length returns)

@@ -1,8 +1,7 @@
--- `stream::step::close` meets its contract: there is room, so the S line is written whole.
-use native.Mathlib.Omega.{arith}
+-- `stream::step::close` meets its contract.
 use borrow.Author.Needs.{needs}
 use Rattle.text_program.specs.Stream.{closing}
-use Rattle.stream.proofs.Places.{written, steps-to}
+use Rattle.chunk_lines.proofs.StepAnswers.{steps-to}
 use Rattle.stream.proofs.step.close.Statement.{statement}
 use Rattle.stream.proofs.step.close.Tie as tie
 
@@ -15,7 +14,7 @@ same-length c = search needs
 returns : tie.Need-returns
 returns c =
     let s = c .before .before .before .before .before .before in
-    steps-to (closing (s .args .state) (s .args .sheet)) (omega arith) (written (s .pre) (c .before .before .before .put-sheet .ensures))
+    steps-to (closing (s .args .state) (s .args .sheet)) (c .before .before .before .put-sheet .ensures)
 
 pub close-spec : {M : Type 1} → statement M
 close-spec = tie.close (tie.spec put-sheet-requires same-length returns)

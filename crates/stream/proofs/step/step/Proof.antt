@@ -1,19 +1,47 @@
 -- `stream::step::step` meets its contract: the tests go the ways of the definition.
-use Prim.Native.Nat.{_+_, _-_, _≤_}
+use Prim.Native.Nat.{ℕ, _-_, _≤_}
 use mathlib.Core.Path.{_≡_, sym, ap, _∙_}
 use mathlib.Core.Bool.{false, not, _&&_, _||_}
-use native.Mathlib.Omega.{arith}
+use mathlib.Core.List.{List}
 use borrow.Author.Needs.{needs}
 use borrow.Author.Tests.{lt-ltb, le-ltb}
 use lib.Dec.{eqb, ltb}
 use lib.ListN.{length, drop, length-drop}
 use Rattle.integers.proofs.Flags.{tells}
 use Rattle.printing.specs.Buffer.{lineRoom}
-use Rattle.stream.proofs.Places.{same-step, halts}
-use Rattle.stream.proofs.LineLaws.{passes-over}
-use Rattle.stream.proofs.StepLaws.{steps-no-more, lacks-room, steps-to-close, steps-to-wait, steps-to-line, line-too-many}
+use Rattle.chunk_lines.proofs.StepAnswers.{same-step, silently}
+use Rattle.stream.proofs.StepLaws.{steps-no-more, lacks-room, steps-to-close, steps-to-wait, steps-to-line}
 use Rattle.stream.proofs.step.step.Statement.{statement}
 use Rattle.stream.proofs.step.step.Tie as tie
+
+-- ---- the places of a step, each from the next: the entry, where S is not written and there is room, and where S is not due
+
+abbrev start-of : tie.Else2 → tie.Start
+start-of c = c .before .before .before .before
+
+abbrev open-of : tie.Else3 → tie.Else2
+open-of c = c .before .before
+
+-- ---- what is known there
+
+abbrev rest : tie.Start → List ℕ
+rest s = drop (s .args .at) (s .args .chunk .now)
+
+abbrev room : tie.Start → ℕ
+room s = length (s .args .out .now) - s .args .filled
+
+has-room : (c : tie.Else2) → ltb (room (start-of c)) lineRoom ≡ false
+has-room c = le-ltb (room (start-of c)) lineRoom (c .if2 .left)
+
+-- The S line is due as the code finds it.
+due : (c : tie.After-at-end) → (let s = start-of (c .before) in c .at-end .result ≡ (s .args .state .ended || (s .args .last && (eqb (length (rest s)) 0 && eqb (s .args .state .held) 0))))
+due c = let a = start-of (c .before) .args in c .at-end .ensures ∙ ap (λ n. a .state .ended || (a .last && (eqb n 0 && eqb (a .state .held) 0))) (sym (length-drop (a .at) (a .chunk .now)))
+
+-- Nothing is left, as the code finds it.
+nothing : (c : tie.After-waits) → (let s = start-of (open-of (c .before)) in c .waits .result ≡ (not (s .args .last) && eqb (length (rest s)) 0))
+nothing c = let a = start-of (open-of (c .before)) .args in c .waits .ensures ∙ ap (λ n. not (a .last) && eqb n 0) (sym (length-drop (a .at) (a .chunk .now)))
+
+-- ---- the needs
 
 halt-requires : tie.Need-halt-requires
 halt-requires c κs = search needs
@@ -21,7 +49,7 @@ halt-requires c κs = search needs
 returns : tie.Need-returns
 returns c =
     let s = c .before .before .before .before in
-    same-step (steps-no-more (s .args .last) (s .args .state) (s .args .sheet) (drop (s .args .at) (s .args .chunk .now)) (length (s .args .out .now) - s .args .filled) (c .before .if1 .taken)) (halts (c .halt .ensures))
+    same-step (steps-no-more (s .args .last) (s .args .state) (s .args .sheet) (rest s) (room s) (c .before .if1 .taken)) (silently (c .halt .ensures))
 
 sub-if2 : tie.Need-sub-if2
 sub-if2 c = search needs
@@ -32,11 +60,7 @@ halt-requires-2 c κs = search needs
 returns-2 : tie.Need-returns-2
 returns-2 c =
     let s = c .before .before .before .before .before in
-    same-step (lacks-room (s .args .last) (s .args .state) (s .args .sheet) (drop (s .args .at) (s .args .chunk .now)) (length (s .args .out .now) - s .args .filled) (lt-ltb (length (s .args .out .now) - s .args .filled) lineRoom (c .before .if2 .taken))) (halts (c .halt2 .ensures))
-
--- There is room for a line.
-has-room : (c : tie.Else2) → (let s = c .before .before .before .before in ltb (length (s .args .out .now) - s .args .filled) lineRoom ≡ false)
-has-room c = let s = c .before .before .before .before in le-ltb (length (s .args .out .now) - s .args .filled) lineRoom (c .if2 .left)
+    same-step (lacks-room (s .args .last) (s .args .state) (s .args .sheet) (rest s) (room s) (lt-ltb (room s) lineRoom (c .before .if2 .taken))) (silently (c .halt2 .ensures))
 
 sub-left : tie.Need-sub-left
 sub-left c = search needs
@@ -50,14 +74,12 @@ close-requires c κs = search needs
 same-length : tie.Need-same-length
 same-length c = search needs
 
--- The S line is due as the code finds it.
-due : (c : tie.After-at-end) → (let s = c .before .before .before .before .before in c .at-end .result ≡ (s .args .state .ended || (s .args .last && (eqb (length (drop (s .args .at) (s .args .chunk .now))) 0 && eqb (s .args .state .held) 0))))
-due c = let s = c .before .before .before .before .before in c .at-end .ensures ∙ ap (λ n. s .args .state .ended || (s .args .last && (eqb n 0 && eqb (s .args .state .held) 0))) (sym (length-drop (s .args .at) (s .args .chunk .now)))
-
 returns-3 : tie.Need-returns-3
 returns-3 c =
-    let s = c .before .before .before .before .before .before .before .before .before .before in
-    same-step (steps-to-close (s .args .last) (s .args .state) (s .args .sheet) (drop (s .args .at) (s .args .chunk .now)) (length (s .args .out .now) - s .args .filled) (c .before .before .before .before .before .before .before .if1 .left) (has-room (c .before .before .before .before .before .before)) (tells (due (c .before .before .before .before .before)) (c .before .before .before .before .if3 .taken))) (c .before .before .close .ensures)
+    let tested = c .before .before .before .before in
+    let opened = tested .before .before in
+    let s = start-of opened in
+    same-step (steps-to-close (s .args .last) (s .args .state) (s .args .sheet) (rest s) (room s) (opened .before .if1 .left) (has-room opened) (tells (due (tested .before)) (tested .if3 .taken))) (c .before .before .close .ensures)
 
 waits-requires : tie.Need-waits-requires
 waits-requires c κs = search needs
@@ -65,40 +87,27 @@ waits-requires c κs = search needs
 halt-requires-3 : tie.Need-halt-requires-3
 halt-requires-3 c κs = search needs
 
--- Nothing is left, as the code finds it.
-nothing : (c : tie.After-waits) → (let s = c .before .before .before .before .before .before .before in c .waits .result ≡ (not (s .args .last) && eqb (length (drop (s .args .at) (s .args .chunk .now))) 0))
-nothing c = let s = c .before .before .before .before .before .before .before in c .waits .ensures ∙ ap (λ n. not (s .args .last) && eqb n 0) (sym (length-drop (s .args .at) (s .args .chunk .now)))
-
 returns-4 : tie.Need-returns-4
 returns-4 c =
-    let s = c .before .before .before .before .before .before .before .before .before in
-    same-step (steps-to-wait (s .args .last) (s .args .state) (s .args .sheet) (drop (s .args .at) (s .args .chunk .now)) (length (s .args .out .now) - s .args .filled) (c .before .before .before .before .before .before .if1 .left) (has-room (c .before .before .before .before .before)) (tells (due (c .before .before .before .before)) (c .before .before .before .if3 .left)) (tells (nothing (c .before .before)) (c .before .if4 .taken))) (halts (c .halt3 .ensures))
+    let tested = c .before in
+    let not-due = tested .before .before in
+    let opened = open-of not-due in
+    let s = start-of opened in
+    same-step (steps-to-wait (s .args .last) (s .args .state) (s .args .sheet) (rest s) (room s) (opened .before .if1 .left) (has-room opened) (tells (due (not-due .before)) (not-due .if3 .left)) (tells (nothing (tested .before)) (tested .if4 .taken))) (silently (c .halt3 .ensures))
 
-end-reading-requires : tie.Need-end-reading-requires
-end-reading-requires c κs = search needs
+line-step-requires : tie.Need-line-step-requires
+line-step-requires c κs = search needs
 
 same-length-2 : tie.Need-same-length-2
 same-length-2 c = search needs
 
 returns-5 : tie.Need-returns-5
 returns-5 c =
-    let s = c .before .before .before .before .before .before .before .before .before .before .before .before .before .before in
-    let rest = drop (s .args .at) (s .args .chunk .now) in
-    same-step
-    (steps-to-line (s .args .last) (s .args .state) (s .args .sheet) rest (length (s .args .out .now) - s .args .filled) (c .before .before .before .before .before .before .before .before .before .before .before .if1 .left) (has-room (c .before .before .before .before .before .before .before .before .before .before)) (tells (due (c .before .before .before .before .before .before .before .before .before)) (c .before .before .before .before .before .before .before .before .if3 .left)) (tells (nothing (c .before .before .before .before .before .before .before)) (c .before .before .before .before .before .before .if4 .left))
-    ∙ line-too-many (s .args .last) (s .args .state) (s .args .sheet) rest (c .before .before .before .before .if5 .taken))
-    (passes-over (s .args .state) (s .args .sheet) rest (omega (arith, length-drop (s .args .at) (s .args .chunk .now), s .pre .0)) (c .before .before .end-reading .ensures))
-
-line-step-requires : tie.Need-line-step-requires
-line-step-requires c κs = search needs
-
-same-length-3 : tie.Need-same-length-3
-same-length-3 c = search needs
-
-returns-6 : tie.Need-returns-6
-returns-6 c =
-    let s = c .before .before .before .before .before .before .before .before .before .before .before .before .before .before in
-    same-step (steps-to-line (s .args .last) (s .args .state) (s .args .sheet) (drop (s .args .at) (s .args .chunk .now)) (length (s .args .out .now) - s .args .filled) (c .before .before .before .before .before .before .before .before .before .before .before .if1 .left) (has-room (c .before .before .before .before .before .before .before .before .before .before)) (tells (due (c .before .before .before .before .before .before .before .before .before)) (c .before .before .before .before .before .before .before .before .if3 .left)) (tells (nothing (c .before .before .before .before .before .before .before)) (c .before .before .before .before .before .before .if4 .left))) (c .before .before .line-step .ensures)
+    let tested = c .before .before .before .before in
+    let not-due = tested .before .before in
+    let opened = open-of not-due in
+    let s = start-of opened in
+    same-step (steps-to-line (s .args .last) (s .args .state) (s .args .sheet) (rest s) (room s) (opened .before .if1 .left) (has-room opened) (tells (due (not-due .before)) (not-due .if3 .left)) (tells (nothing (tested .before)) (tested .if4 .left))) (c .before .before .line-step .ensures)
 
 pub step-spec : {M : Type 1} → statement M
 step-spec =
@@ -117,9 +126,6 @@ step-spec =
     waits-requires
     halt-requires-3
     returns-4
-    end-reading-requires
-    same-length-2
-    returns-5
     line-step-requires
-    same-length-3
-    returns-6)
+    same-length-2
+    returns-5)

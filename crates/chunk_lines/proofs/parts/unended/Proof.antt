@@ -1,7 +1,7 @@
--- `stream::line::unended` meets its contract.
+-- `chunk_lines::parts::unended` meets its contract.
 use borrow.Author.Tests.{lt-ltb, le-ltb}
-use Rattle.stream.proofs.line.unended.Statement.{statement}
-use Rattle.stream.proofs.line.unended.Tie as tie
+use Rattle.chunk_lines.proofs.parts.unended.Statement.{statement}
+use Rattle.chunk_lines.proofs.parts.unended.Tie as tie
 
 returns : tie.Need-returns
 returns c = rw (lt-ltb _ _ (c .if1 .taken))

@@ -1,13 +1,12 @@
--- `stream::line::whole_line` meets its contract: there is room, so what the line prints is written whole.
+-- `chunk_lines::parts::whole_line` meets its contract.
 use Prim.Native.Nat.{_+_}
-use mathlib.Core.Path.{refl}
 use Rattle.parsing.specs.ReadForm.{reading}
 use Rattle.text_program.specs.Program.{carryOut}
 use Rattle.text_program.specs.Stream.{carriedStep}
-use Rattle.stream.proofs.Places.{written, steps-to}
+use Rattle.chunk_lines.proofs.StepAnswers.{steps-to}
 use borrow.Author.Needs.{needs}
-use Rattle.stream.proofs.line.whole_line.Statement.{statement}
-use Rattle.stream.proofs.line.whole_line.Tie as tie
+use Rattle.chunk_lines.proofs.parts.whole_line.Statement.{statement}
+use Rattle.chunk_lines.proofs.parts.whole_line.Tie as tie
 
 cast-carry-out : tie.Need-cast-carry-out
 cast-carry-out c = search needs
@@ -21,9 +20,6 @@ carry-out-requires c κs = search needs
 after-line-requires : tie.Need-after-line-requires
 after-line-requires c κs = search needs
 
-add-t17 : tie.Need-add-t17
-add-t17 c = search needs
-
 same-length : tie.Need-same-length
 same-length c = search needs
 
@@ -33,7 +29,7 @@ returns c =
     let at-start = carried .before .before .before .before .before in
     let a = at-start .args in
     let left = carried .carry-out .ensures in
-    rw (c .after-line .ensures, left .walk, left .sheet) (steps-to (carriedStep (a .state) (carryOut (a .state .lines + 1) (reading (a .form) .form) (a .state .walk) (a .sheet)) (a .size)) refl (written (at-start .pre .1) (left .text)))
+    rw (c .after-line .ensures, left .walk, left .sheet) (steps-to (carriedStep (a .state) (carryOut (a .state .lines + 1) (reading (a .form) .form) (a .state .walk) (a .sheet)) (a .size)) (left .text))
 
 pub whole-line-spec : {M : Type 1} → statement M
 whole-line-spec =
@@ -43,6 +39,5 @@ whole-line-spec =
     add-carry-out
     carry-out-requires
     after-line-requires
-    add-t17
     same-length
     returns)

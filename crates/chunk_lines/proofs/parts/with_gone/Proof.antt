@@ -1,7 +1,7 @@
--- `stream::line::with_gone` meets its contract.
+-- `chunk_lines::parts::with_gone` meets its contract.
 use borrow.Author.Tests.{lt-ltb, le-ltb}
-use Rattle.stream.proofs.line.with_gone.Statement.{statement}
-use Rattle.stream.proofs.line.with_gone.Tie as tie
+use Rattle.chunk_lines.proofs.parts.with_gone.Statement.{statement}
+use Rattle.chunk_lines.proofs.parts.with_gone.Tie as tie
 
 returns : tie.Need-returns
 returns c = rw (lt-ltb _ _ (c .if1 .taken))

@@ -1,4 +1,4 @@
--- `stream::line::line_size` meets its contract, by the form of the line.
+-- `chunk_lines::parts::line_size` meets its contract, by the form of the line.
 use Prim.Native.Nat.{ℕ, _+_}
 use mathlib.Core.Path.{_≡_, refl}
 use native.Mathlib.Omega.{arith}
@@ -7,10 +7,10 @@ use Rattle.parsing.specs.declared.LineForm.{LineForm}
 use Rattle.newlines.specs.LineLength.{lineLength}
 use Rattle.parsing.specs.ReadForm.{formed, reading}
 use Rattle.newlines.proofs.Newlines.{line-within}
-use Rattle.stream.proofs.FormsRead.{next-line}
+use Rattle.chunk_lines.proofs.FormsRead.{next-line}
 use borrow.Author.Needs.{needs}
-use Rattle.stream.proofs.line.line_size.Statement.{statement}
-use Rattle.stream.proofs.line.line_size.Tie as tie
+use Rattle.chunk_lines.proofs.parts.line_size.Statement.{statement}
+use Rattle.chunk_lines.proofs.parts.line_size.Tie as tie
 
 -- Where the next line begins, if the line has a form.
 next : (s : tie.Start) (g : LineForm) → s .args .form ≡ g → ((n : ℕ) → formed (reading g .form) n .next ≡ n) → reading g .next ≡ s .args .at + lineLength (drop (s .args .at) (s .args .s .now)) + 1

@@ -1,0 +1,3 @@
+pub mod FormsRead
+pub mod StepAnswers
+pub mod LineLaws
