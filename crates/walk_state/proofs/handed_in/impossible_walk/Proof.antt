@@ -29,14 +29,17 @@ ends-outside-requires c κs = search needs
 
 returns-3 : tie.Need-returns-3
 unfolding impossibleWalk
-returns-3 c = rw (is-open (c .before .before .before .before), not-many (c .before .before), tells (c .before .ends-outside .ensures) (c .if3 .taken))
+returns-3 c = let few = c .before .before in rw (is-open (few .before .before), not-many few, tells (c .before .ends-outside .ensures) (c .if3 .taken))
 
 exceeds-share-requires : tie.Need-exceeds-share-requires
 exceeds-share-requires c κs = search needs
 
 returns-4 : tie.Need-returns-4
 unfolding impossibleWalk
-returns-4 c = rw (is-open (c .before .before .before .before .before .before), not-many (c .before .before .before .before), tells (c .before .before .before .ends-outside .ensures) (c .before .before .if3 .left)) (c .exceeds-share .ensures)
+returns-4 c =
+    let inside = c .before .before in
+    let few = inside .before .before in
+    rw (is-open (few .before .before), not-many few, tells (inside .before .ends-outside .ensures) (inside .if3 .left)) (c .exceeds-share .ensures)
 
 pub impossible-walk-spec : {M : Type 1} → statement M
 impossible-walk-spec =
