@@ -19,7 +19,7 @@ use outline_calls::EndAnswer;
 use outline_calls::OutlineAnswer;
 use replies::put_values;
 
-// The totals of a refusal.
+// The totals of a refusal, by the definition's name.
 fn no_totals() -> Totals
     ensures { λ r. ⌜ r ≡ zeros ⌝ }
 {

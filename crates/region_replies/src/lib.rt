@@ -9,7 +9,7 @@ use centroid::ZERO_SUMS;
 use integers::lesser;
 use replies::put_values;
 
-// The sums of a refusal.
+// The sums of a refusal, by the definition's name.
 fn no_sums() -> CellSums
     ensures { λ r. ⌜ r ≡ zeros ⌝ }
 {
