@@ -12,9 +12,9 @@ use lib.IntN.{ℤ, natAbs}
 use borrow.Author.Tests.{ltb-false, le-ltb, eqb-false, ne-eqb}
 use Rattle.integers.proofs.Ring.{Quote, quote}
 use Rattle.integers.proofs.Order.{natAbs-add}
-use Rattle.integers.proofs.Bounds.{headℕ, tailℕ, Within, bound, within}
+use Rattle.integers.proofs.Bounds.{Within, bound, within}
 use Rattle.integers.proofs.SignedCode.{Code, both, size, steps}
-use Rattle.integers.proofs.Bounded.{Bounded, at-most}
+use Rattle.integers.proofs.SizedNumbers.{Sized, sized, numbers as sizedNumbers, bounds, at-most}
 use Rattle.outline.specs.declared.Position.{Position}
 use Rattle.outline.specs.declared.Totals.{Totals}
 use Rattle.outline.specs.declared.Sizes.{Sizes}
@@ -42,23 +42,13 @@ pub over-not : (n : ℕ) (z : ℤ) → over n z ≡ false → natAbs z ≤ n
 unfolding over
 over-not n z e = ltb-false n (natAbs z) e
 
--- None of some numbers is over its bound: tests in a row, as the contracts of private functions ask for them.
-abbrev pub NoneOver : List ℤ → List ℕ → Type 0
-NoneOver [] B = Unit {0}
-NoneOver (z ∷ []) B = over (headℕ B) z ≡ false
-NoneOver (z ∷ y ∷ ρ) B = (over (headℕ B) z ≡ false) × NoneOver (y ∷ ρ) (tailℕ B)
+-- A number that is tested not to be over its bound, with this bound.
+abbrev pub tested : (n : ℕ) (z : ℤ) → over n z ≡ false → Sized
+tested n z h = sized z (over-not n z h)
 
-pub none-over-within : (ρ : List ℤ) (B : List ℕ) → NoneOver ρ B → Within ρ B
-none-over-within [] B h = tt
-none-over-within (z ∷ []) B h = (over-not (headℕ B) z h, tt)
-none-over-within (z ∷ y ∷ ρ) B h = (over-not (headℕ B) z (h .0), none-over-within (y ∷ ρ) (tailℕ B) (h .1))
-
-abbrev pub none-over : (ρ : List ℤ) (B : List ℕ) → NoneOver ρ B → Bounded
-none-over ρ B h = record { numbers = ρ; sizes = B; small = none-over-within ρ B h }
-
--- A value that signed code makes of bounded numbers is not over K, where a computed test says so.
-pub never-over : (g : Bounded) (K : ℕ) {z : ℤ} (k : Code (g .numbers) z) → T (both (leb (size (g .sizes) k) K) (steps (g .sizes) k)) → over K z ≡ false
-never-over g K {z} k t = not-over K z (at-most g K k t)
+-- A value that signed code makes of such numbers is not over K, where a computed test says so.
+pub never-over : (l : List Sized) (K : ℕ) {z : ℤ} (k : Code (sizedNumbers l) z) → T (both (leb (size (bounds l) k) K) (steps (bounds l) k)) → over K z ≡ false
+never-over l K {z} k t = not-over K z (at-most l k t)
 
 pub outside-not : (p : Position) → outside p ≡ false → Inside p
 unfolding outside

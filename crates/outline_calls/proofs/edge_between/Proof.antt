@@ -1,7 +1,7 @@
 -- `outline_calls::edge_between` meets its contract. The four coordinates are at most 2,000 in size, so every step fits 64 bits: a computed test.
 use mathlib.Core.Path.{_≡_, _∙_}
 use mathlib.Core.Bool.{false}
-use mathlib.Core.List.{[], _∷_}
+use mathlib.Core.List.{List, [], _∷_}
 use Prim.Native.Nat.{_<_, _^_}
 use lib.IntN.{ℤ, _-ℤ_, _*ℤ_}
 use lib.Signed.{mag}
@@ -10,7 +10,7 @@ use mir.Val.{toZ, ofZ}
 use mir.Facts.{toZ-ofZ}
 use Rattle.integers.proofs.Bounds.{Within}
 use Rattle.integers.proofs.SignedCode.{code}
-use Rattle.integers.proofs.Bounded.{Bounded, fits, is}
+use Rattle.integers.proofs.SizedNumbers.{Sized, sized, fits, is-plain}
 use Rattle.outline.specs.declared.Position.{Position}
 use Rattle.outline.specs.EdgeSums.{cross, x6, y6, xx12, xy24, yy12, over}
 use Rattle.outline.proofs.Limits.{never-over, outside-not}
@@ -46,23 +46,23 @@ module _ (s : tie.Start) where
       let to = outside-not b (s .pre .1) in
       (from .0, (from .1, (to .0, (to .1, tt))))
 
-  abbrev given : Bounded
-  given = record { numbers = a .x ∷ a .y ∷ b .x ∷ b .y ∷ []; sizes = 2000 ∷ 2000 ∷ 2000 ∷ 2000 ∷ []; small = inside }
+  abbrev operands : List Sized
+  operands = sized (a .x) (inside .0) ∷ sized (a .y) (inside .1 .0) ∷ sized (b .x) (inside .1 .1 .0) ∷ sized (b .y) (inside .1 .1 .1 .0) ∷ []
 
   x-is : cast (a .x) ≡ a .x
-  x-is = is given (search code depth 40) tt
+  x-is = is-plain operands (search code depth 40) tt
 
   y-is : cast (a .y) ≡ a .y
-  y-is = is given (search code depth 40) tt
+  y-is = is-plain operands (search code depth 40) tt
 
   p-is : cast (b .x) ≡ b .x
-  p-is = is given (search code depth 40) tt
+  p-is = is-plain operands (search code depth 40) tt
 
   q-is : cast (b .y) ≡ b .y
-  q-is = is given (search code depth 40) tt
+  q-is = is-plain operands (search code depth 40) tt
 
   c-is : made a b ≡ cross a b
-  c-is = is given (search code depth 40) tt
+  c-is = is-plain operands (search code depth 40) tt
 
   -- What the calls are promised to give, of the numbers as they are passed.
   x6-is : firstTerm (cast (a .x)) (cast (b .x)) (made a b) ≡ x6 a b
@@ -81,19 +81,19 @@ module _ (s : tie.Start) where
   yy12-is i = secondTerm (y-is i) (q-is i) (c-is i)
 
   x-small : over 2000 (cast (a .x)) ≡ false
-  x-small = never-over given 2000 (search code depth 40) tt
+  x-small = never-over operands 2000 (search code depth 40) tt
 
   y-small : over 2000 (cast (a .y)) ≡ false
-  y-small = never-over given 2000 (search code depth 40) tt
+  y-small = never-over operands 2000 (search code depth 40) tt
 
   p-small : over 2000 (cast (b .x)) ≡ false
-  p-small = never-over given 2000 (search code depth 40) tt
+  p-small = never-over operands 2000 (search code depth 40) tt
 
   q-small : over 2000 (cast (b .y)) ≡ false
-  q-small = never-over given 2000 (search code depth 40) tt
+  q-small = never-over operands 2000 (search code depth 40) tt
 
   c-small : over 8000000 (made a b) ≡ false
-  c-small = never-over given 8000000 (search code depth 40) tt
+  c-small = never-over operands 8000000 (search code depth 40) tt
 
 -- The code reads the coordinates into locals, two steps each: here each is read, and the way back to the start.
 abbrev at-x : tie.After-struct-told → tie.Start
@@ -143,13 +143,13 @@ pub edge-between-spec : {M : Type 1} → statement M
 edge-between-spec =
     tie.close
     (tie.spec
-    (λ c. fits (given (at-x c)) (search code depth 40) tt)
-    (λ c. fits (given (at-y c)) (search code depth 40) tt)
-    (λ c. fits (given (at-p c)) (search code depth 40) tt)
-    (λ c. fits (given (at-q c)) (search code depth 40) tt)
-    (λ c. fits (given (at-q c)) (search code depth 40) tt)
-    (λ c. fits (given (at-q c)) (search code depth 40) tt)
-    (λ c. fits (given (at-q c)) (search code depth 40) tt)
+    (λ c. fits (operands (at-x c)) (search code depth 40) tt)
+    (λ c. fits (operands (at-y c)) (search code depth 40) tt)
+    (λ c. fits (operands (at-p c)) (search code depth 40) tt)
+    (λ c. fits (operands (at-q c)) (search code depth 40) tt)
+    (λ c. fits (operands (at-q c)) (search code depth 40) tt)
+    (λ c. fits (operands (at-q c)) (search code depth 40) tt)
+    (λ c. fits (operands (at-q c)) (search code depth 40) tt)
     first-term-requires
     first-term-requires-2
     second-term-requires
