@@ -3,6 +3,7 @@
 ghost use Prim.Native.Nat.{_≤_};
 
 mod plots;
+mod show;
 
 use outline::Position;
 use outline_replies::end_totals;
@@ -10,13 +11,13 @@ use outline_replies::list_totals;
 use outline_replies::map_totals;
 use region_replies::region_index;
 use region_replies::region_sums;
-use row_output::end_row;
-use row_output::show_coordinate;
-use row_output::show_integer;
-use row_output::show_label;
-use row_output::show_natural;
-use row_output::show_sums;
-use row_output::show_totals;
+use show::end_row;
+use show::show_coordinate;
+use show::show_integer;
+use show::show_label;
+use show::show_natural;
+use show::show_sums;
+use show::show_totals;
 
 // A triangle with a corner at the limit or past it. Asked: its x. Answered: number, six totals.
 fn limit_row(x: i32) {

@@ -1,17 +1,17 @@
-// A row on standard output: its label, then fields, each after a tab. No promise can speak of what is written; that these functions end and are safe is proved.
+// A row on standard output: its label, then fields, each after a tab.
 use centroid::CellSums;
 use outline::Totals;
 
-pub fn show_label(label: &[u8]) {
+pub(crate) fn show_label(label: &[u8]) {
     io::write_all(1, label);
 }
 
-pub fn show_natural(n: u64) {
+pub(crate) fn show_natural(n: u64) {
     io::write_all(1, b"\t");
     io::print_decimal(1, n);
 }
 
-pub fn show_integer(n: i64) {
+pub(crate) fn show_integer(n: i64) {
     if n < 0 {
         io::write_all(1, b"\t-");
         io::print_decimal(1, decimals::magnitude(n));
@@ -20,11 +20,11 @@ pub fn show_integer(n: i64) {
     show_natural(decimals::magnitude(n));
 }
 
-pub fn show_coordinate(x: i32) {
+pub(crate) fn show_coordinate(x: i32) {
     show_integer(x as i64);
 }
 
-pub fn show_totals(t: Totals) {
+pub(crate) fn show_totals(t: Totals) {
     show_integer(t.a2);
     show_integer(t.x6);
     show_integer(t.y6);
@@ -33,7 +33,7 @@ pub fn show_totals(t: Totals) {
     show_integer(t.yy12);
 }
 
-pub fn show_sums(s: CellSums) {
+pub(crate) fn show_sums(s: CellSums) {
     show_integer(s.count);
     show_integer(s.x);
     show_integer(s.y);
@@ -42,6 +42,6 @@ pub fn show_sums(s: CellSums) {
     show_integer(s.yy);
 }
 
-pub fn end_row() {
+pub(crate) fn end_row() {
     io::write_all(1, b"\n");
 }

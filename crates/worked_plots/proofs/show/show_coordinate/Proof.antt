@@ -1,8 +1,8 @@
--- `row_output::show_coordinate` is safe: 64 bits hold what 32 bits do.
+-- `worked_plots::show::show_coordinate` is safe: 64 bits hold what 32 bits do.
 use borrow.Author.Needs.{needs}
 use Rattle.integers.proofs.Widening.{widens}
-use Rattle.row_output.proofs.show_coordinate.Statement.{statement}
-use Rattle.row_output.proofs.show_coordinate.Tie as tie
+use Rattle.worked_plots.proofs.show.show_coordinate.Statement.{statement}
+use Rattle.worked_plots.proofs.show.show_coordinate.Tie as tie
 
 cast-show-integer : tie.Need-cast-show-integer
 cast-show-integer c = widens (c .fits .x)
