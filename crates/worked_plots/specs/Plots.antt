@@ -8,7 +8,7 @@ use Rattle.outline.specs.declared.Position.{Position}
 use Rattle.outline.specs.declared.AffineMap.{AffineMap}
 use Rattle.outline.specs.declared.Walk.{Walk}
 use Rattle.outline.specs.ListCall.{points}
-use Rattle.outline.specs.WalkCalls.{EndOutcome, origin, closed, newSheet, beginCall, pointCall, endCall}
+use Rattle.outline.specs.WalkCalls.{EndOutcome, origin, closed, newSheet, openWalk, beginCall, pointCall, endCall}
 use Rattle.cells.specs.declared.Run.{Run}
 
 -- ---- the square with corners ±2,000
@@ -56,4 +56,4 @@ runOf first length = record { row = 0; first = first; length = length }
 
 -- An open walk of so many points with this A2, all else zero.
 abbrev pub handedIn : ℕ → ℤ → Walk
-handedIn count a2 = record { is_open = true; count = count; first = origin; last = origin; totals = record { a2 = a2; x6 = pos 0; y6 = pos 0; xx12 = pos 0; xy24 = pos 0; yy12 = pos 0 } }
+handedIn count a2 = openWalk count origin origin (record { a2 = a2; x6 = pos 0; y6 = pos 0; xx12 = pos 0; xy24 = pos 0; yy12 = pos 0 })

@@ -1,5 +1,5 @@
 // Document 01, "Plots worked by hand": the plots that carry no ✱, run through the proved functions. Each prints a row: label, what was asked, number of
-// the refusal (0 where accepted) and values, parted by tabs, as second/worked.py prints them too. The plots marked ✱ are rows of worked_rows/specs/Rows.antt.
+// the refusal (0 where accepted) and values, separated by tabs, as second/worked.py prints them too. The plots marked ✱ are rows of worked_rows/specs/Rows.antt.
 ghost use Prim.Native.Nat.{_≤_};
 
 mod plots;

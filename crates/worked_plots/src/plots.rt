@@ -143,14 +143,6 @@ pub(crate) fn handed_in(count: u32, a2: i64) -> EndReply
         xy24: 0,
         yy12: 0,
     };
-    let first = ORIGIN;
-    let last = ORIGIN;
-    let walk = Walk {
-        is_open: true,
-        count,
-        first,
-        last,
-        totals,
-    };
+    let walk = walk_state::open_walk(count, ORIGIN, ORIGIN, totals);
     outline_calls::end(walk, walk_state::new_sheet())
 }
