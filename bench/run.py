@@ -117,7 +117,7 @@ def program_table(programs, paths, rounds):
 
 
 def library_tables():
-    """What the callers' own benchmark prints: tables parted by an empty line, columns by two spaces or more."""
+    """What the callers' own benchmark prints: tables separated by an empty line, columns by two spaces or more."""
     run("rt", "staticlib", "exports")
     printed = run("cargo", "run", "--quiet", "--release", "--bin", "bench", folder=CALLERS)
     tables = []
