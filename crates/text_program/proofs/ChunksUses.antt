@@ -11,7 +11,7 @@ use lib.Seq.{drop-length}
 use borrow.Author.Tests.{ne-eqb, lt-ltb}
 use Rattle.outline.specs.EdgeSums.{zeros, over, exceed}
 use Rattle.outline.specs.ListCall.{outside}
-use Rattle.outline.specs.WalkCalls.{origin, closed, newSheet, extended, impossibleWalk, impossibleSheet, beginCall, pointCall, endCall}
+use Rattle.outline.specs.WalkCalls.{origin, openWalk, closed, newSheet, extended, impossibleWalk, impossibleSheet, beginCall, pointCall, endCall}
 use Rattle.text_program.specs.declared.State.{State}
 use Rattle.centroid.specs.Centroid.{outlineCentroidCall}
 use Rattle.text_numbers.specs.Numbers.{allDigits, valueFrom, leadingZero, isNatural, naturalOf, numberOf}
@@ -43,7 +43,7 @@ input = firstPiece ++ secondPiece ++ thirdPiece
 
 -- All is read, and E waits in the buffer for what may follow it.
 abbrev waiting : Place
-waiting = record { state = record { lines = 3; bytes = 42; held = 0; ended = false; written = false; walk = record { is_open = true; count = 1; first = origin; last = origin; totals = zeros } }; sheet = newSheet; buffer = 69 ∷ []; unread = [] }
+waiting = record { state = record { lines = 3; bytes = 42; held = 0; ended = false; written = false; walk = openWalk 1 origin origin zeros }; sheet = newSheet; buffer = 69 ∷ []; unread = [] }
 
 -- A call that is not told that the input has ended.
 not-ended : {unread : List ℕ} → false ≡ true → unread ≡ []
