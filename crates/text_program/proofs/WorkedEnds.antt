@@ -20,13 +20,13 @@ pub empty-line : program (10 ∷ 65 ∷ []) ≡ text ("R 1 9" ∷ "R 2 21" ∷ "
 unfolding over exceed impossibleWalk abandonCall outlineCentroidCall withFirst fields letterOf formOfFields formOf digits decimal signed totalsText centreText refusalLine sheetLine linesFrom tooFar carriedWalk carryOut outputOf program
 empty-line = refl
 
--- Line 1,000,000 is carried out, line 1,000,001 is 10 though it has no form, and nothing but S follows.
-pub at-line : outputOf closed newSheet (record { number = 1_000_000; last = 2_000_000; bytes = 66 ∷ [] } ∷ record { number = 1_000_001; last = 2_000_001; bytes = [] } ∷ record { number = 1_000_002; last = 2_000_003; bytes = 66 ∷ [] } ∷ []) ≡ refusalLine 1_000_001 10 ++ sheetLine newSheet
+-- Line 1,000,000 is carried out, line 1,000,001 is 10 though it has no form.
+pub at-line : outputOf closed newSheet (record { number = 1_000_000; last = 2_000_000; bytes = 66 ∷ [] } ∷ record { number = 1_000_001; last = 2_000_001; bytes = [] } ∷ []) ≡ refusalLine 1_000_001 10 ++ sheetLine newSheet
 unfolding exceed over impossibleWalk beginCall withFirst fields letterOf formOfFields formOf tooFar carriedWalk carryOut outputOf
 at-line = refl
 
--- A line whose last byte is 33,000,000 is carried out; one that holds byte 33,000,001 is 10.
-pub at-byte : outputOf closed newSheet (record { number = 1; last = 33_000_000; bytes = 65 ∷ [] } ∷ record { number = 2; last = 33_000_001; bytes = 65 ∷ [] } ∷ []) ≡ text ("R 1 21" ∷ "R 2 10" ∷ "S 0 0 0 0 0 0 0 - -" ∷ [])
+-- A line whose last byte is 33,000,000 is carried out; one that holds byte 33,000,001 is 10, and nothing but S follows.
+pub at-byte : outputOf closed newSheet (record { number = 1; last = 33_000_000; bytes = 65 ∷ [] } ∷ record { number = 2; last = 33_000_001; bytes = 65 ∷ [] } ∷ record { number = 3; last = 33_000_003; bytes = 65 ∷ [] } ∷ []) ≡ text ("R 1 21" ∷ "R 2 10" ∷ "S 0 0 0 0 0 0 0 - -" ∷ [])
 unfolding over exceed impossibleWalk abandonCall outlineCentroidCall withFirst fields letterOf formOfFields formOf digits decimal signed totalsText centreText refusalLine sheetLine tooFar carriedWalk carryOut outputOf
 at-byte = refl
 
