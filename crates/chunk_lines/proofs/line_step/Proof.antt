@@ -49,39 +49,12 @@ room c = let a = start-of (sized-of c) .args in counts (a .last) (a .state) (a .
 
 -- ---- the needs
 
-line-form-requires : tie.Need-line-form-requires
-line-form-requires c κs = search needs
-
-line-size-requires : tie.Need-line-size-requires
-line-size-requires c κs = search needs
-
-lesser-requires : tie.Need-lesser-requires
-lesser-requires c κs = search needs
-
-sub-left : tie.Need-sub-left
-sub-left c = search needs
-
-lesser-requires-2 : tie.Need-lesser-requires-2
-lesser-requires-2 c κs = search needs
-
-past-limit-requires : tie.Need-past-limit-requires
-past-limit-requires c κs = search needs
-
-end-reading-requires : tie.Need-end-reading-requires
-end-reading-requires c κs = search needs
-
-same-length : tie.Need-same-length
-same-length c = search needs
-
 returns : tie.Need-returns
 returns c =
     let tested = c .before .before .before .before in
     let sized = tested .before .before in
     let a = start-of sized .args in
     same-step (goes-too-far (a .last) (a .state) (a .sheet) (found sized) (tells (tested .before .past-limit .ensures) (tested .if1 .taken))) (c .before .before .end-reading .ensures)
-
-unended-requires : tie.Need-unended-requires
-unended-requires c κs = search needs
 
 part-of-line-requires : tie.Need-part-of-line-requires
 part-of-line-requires c κs = room (c .before .before)
@@ -94,14 +67,8 @@ returns-2 c =
     let a = start-of sized .args in
     same-step (goes-partly (a .last) (a .state) (a .sheet) (found sized) (near passed) (tells (tested .before .unended .ensures) (tested .if2 .taken))) (partly (a .state) (a .sheet) (sized .lesser2 .result) (c .part-of-line .ensures))
 
-with-gone-requires : tie.Need-with-gone-requires
-with-gone-requires c κs = search needs
-
 whole-line-requires : tie.Need-whole-line-requires
 whole-line-requires c κs = room (passed-of (c .before .before))
-
-same-length-2 : tie.Need-same-length-2
-same-length-2 c = search needs
 
 returns-3 : tie.Need-returns-3
 returns-3 c =
@@ -115,19 +82,19 @@ pub line-step-spec : {M : Type 1} → statement M
 line-step-spec =
     tie.close
     (tie.spec
-    line-form-requires
-    line-size-requires
-    lesser-requires
-    sub-left
-    lesser-requires-2
-    past-limit-requires
-    end-reading-requires
-    same-length
+    (λ c κs. search needs)
+    (λ c κs. search needs)
+    (λ c κs. search needs)
+    (λ c. search needs)
+    (λ c κs. search needs)
+    (λ c κs. search needs)
+    (λ c κs. search needs)
+    (λ c. search needs)
     returns
-    unended-requires
+    (λ c κs. search needs)
     part-of-line-requires
     returns-2
-    with-gone-requires
+    (λ c κs. search needs)
     whole-line-requires
-    same-length-2
+    (λ c. search needs)
     returns-3)

@@ -9,48 +9,6 @@ use borrow.Author.Needs.{needs}
 use Rattle.lines.proofs.carry_out.Statement.{statement}
 use Rattle.lines.proofs.carry_out.Tie as tie
 
-enum-known-form : tie.Need-enum-known-form
-enum-known-form c = search needs
-
-extend-walk-requires : tie.Need-extend-walk-requires
-extend-walk-requires c κs = search needs
-
-tell-requires : tie.Need-tell-requires
-tell-requires c κs = search needs
-
-enum-told : tie.Need-enum-told
-enum-told c = search needs
-
-begin-walk-requires : tie.Need-begin-walk-requires
-begin-walk-requires c κs = search needs
-
-tell-requires-2 : tie.Need-tell-requires-2
-tell-requires-2 c κs = search needs
-
-enum-told-2 : tie.Need-enum-told-2
-enum-told-2 c = search needs
-
-abandon-walk-requires : tie.Need-abandon-walk-requires
-abandon-walk-requires c κs = search needs
-
-tell-requires-3 : tie.Need-tell-requires-3
-tell-requires-3 c κs = search needs
-
-enum-told-3 : tie.Need-enum-told-3
-enum-told-3 c = search needs
-
-end-walk-requires : tie.Need-end-walk-requires
-end-walk-requires c κs = search needs
-
-enum-told-4 : tie.Need-enum-told-4
-enum-told-4 c = search needs
-
-tell-requires-4 : tie.Need-tell-requires-4
-tell-requires-4 c κs = search needs
-
-same-length : tie.Need-same-length
-same-length c = search needs
-
 -- A point's x and y as the code hands them on, which are x and y.
 extended : (c : tie.After-extend-walk) → (let known = c .before in let p = known .before .form .given .0 in outcome (c .extend-walk .result) ≡ pointCall (known .before .before .before .before .args .walk) (record { x = p .0; y = p .1 .0 }))
 extended c =
@@ -65,17 +23,11 @@ returns c =
     let called = c .before .before .before .before in
     rw (called .before .before .form .given .1, ← extended called) (c .before .before .tell .ensures)
 
-same-length-2 : tie.Need-same-length-2
-same-length-2 c = search needs
-
 returns-2 : tie.Need-returns-2
 unfolding carryOut
 returns-2 c =
     let called = c .before .before .before .before in
     rw (called .before .enum-told .given .1, ← called .begin-walk .ensures) (c .before .before .tell2 .ensures)
-
-same-length-3 : tie.Need-same-length-3
-same-length-3 c = search needs
 
 returns-3 : tie.Need-returns-3
 unfolding carryOut
@@ -83,17 +35,11 @@ returns-3 c =
     let called = c .before .before .before .before in
     rw (called .before .enum-told2 .given .1, ← called .abandon-walk .ensures) (c .before .before .tell3 .ensures)
 
-same-length-4 : tie.Need-same-length-4
-same-length-4 c = search needs
-
 returns-4 : tie.Need-returns-4
 unfolding carryOut
 returns-4 c =
     let ended = c .before .before in
     rw (ended .before .before .enum-told3 .given .1) (ended .end-walk .ensures)
-
-same-length-5 : tie.Need-same-length-5
-same-length-5 c = search needs
 
 returns-5 : tie.Need-returns-5
 unfolding carryOut carriedWalk
@@ -105,26 +51,26 @@ pub carry-out-spec : {M : Type 1} → statement M
 carry-out-spec =
     tie.close
     (tie.spec
-    enum-known-form
-    extend-walk-requires
-    tell-requires
-    enum-told
-    begin-walk-requires
-    tell-requires-2
-    enum-told-2
-    abandon-walk-requires
-    tell-requires-3
-    enum-told-3
-    end-walk-requires
-    enum-told-4
-    tell-requires-4
-    same-length
+    (λ c. search needs)
+    (λ c κs. search needs)
+    (λ c κs. search needs)
+    (λ c. search needs)
+    (λ c κs. search needs)
+    (λ c κs. search needs)
+    (λ c. search needs)
+    (λ c κs. search needs)
+    (λ c κs. search needs)
+    (λ c. search needs)
+    (λ c κs. search needs)
+    (λ c. search needs)
+    (λ c κs. search needs)
+    (λ c. search needs)
     returns
-    same-length-2
+    (λ c. search needs)
     returns-2
-    same-length-3
+    (λ c. search needs)
     returns-3
-    same-length-4
+    (λ c. search needs)
     returns-4
-    same-length-5
+    (λ c. search needs)
     returns-5)

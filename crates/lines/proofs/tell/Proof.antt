@@ -13,12 +13,6 @@ returns c =
     let at-start = c .before .before .before .before in
     record { walk = refl; sheet = refl; text = rw (eq-eqb (at-start .args .a .number) 0 (c .if1 .taken)) (nothing-written (at-start .args .out .now) (at-start .args .at)) }
 
-put-refusal-requires : tie.Need-put-refusal-requires
-put-refusal-requires c κs = search needs
-
-same-length : tie.Need-same-length
-same-length c = search needs
-
 returns-2 : tie.Need-returns-2
 unfolding carriedWalk
 returns-2 c =
@@ -27,4 +21,4 @@ returns-2 c =
     record { walk = refl; sheet = refl; text = rw (ne-eqb (at-start .args .a .number) 0 (tested .if1 .left)) (c .before .before .put-refusal .ensures) }
 
 pub tell-spec : {M : Type 1} → statement M
-tell-spec = tie.close (tie.spec returns put-refusal-requires same-length returns-2)
+tell-spec = tie.close (tie.spec returns (λ c κs. search needs) (λ c. search needs) returns-2)

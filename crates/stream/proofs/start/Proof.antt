@@ -3,11 +3,8 @@ use borrow.Author.Needs.{needs}
 use Rattle.stream.proofs.start.Statement.{statement}
 use Rattle.stream.proofs.start.Tie as tie
 
-new-walk-requires : tie.Need-new-walk-requires
-new-walk-requires c κs = search needs
-
 returns : tie.Need-returns
 returns c = rw (c .new-walk .ensures)
 
 pub start-spec : {M : Type 1} → statement M
-start-spec = tie.close (tie.spec new-walk-requires returns)
+start-spec = tie.close (tie.spec (λ c κs. search needs) returns)

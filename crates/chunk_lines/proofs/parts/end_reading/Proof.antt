@@ -5,18 +5,6 @@ use Rattle.chunk_lines.proofs.StepAnswers.{steps-to}
 use Rattle.chunk_lines.proofs.parts.end_reading.Statement.{statement}
 use Rattle.chunk_lines.proofs.parts.end_reading.Tie as tie
 
-cast-put-refusal : tie.Need-cast-put-refusal
-cast-put-refusal c = search needs
-
-add-put-refusal : tie.Need-add-put-refusal
-add-put-refusal c = search needs
-
-put-refusal-requires : tie.Need-put-refusal-requires
-put-refusal-requires c κs = search needs
-
-same-length : tie.Need-same-length
-same-length c = search needs
-
 returns : tie.Need-returns
 returns c =
     let refused = c .before .before .before in
@@ -25,4 +13,4 @@ returns c =
 
 pub end-reading-spec : {M : Type 1} → statement M
 end-reading-spec =
-    tie.close (tie.spec cast-put-refusal add-put-refusal put-refusal-requires same-length returns)
+    tie.close (tie.spec (λ c. search needs) (λ c. search needs) (λ c κs. search needs) (λ c. search needs) returns)

@@ -16,42 +16,21 @@ use Rattle.chunk_lines.proofs.parts.line_size.Tie as tie
 next : (s : tie.Start) (g : LineForm) → s .args .form ≡ g → ((n : ℕ) → formed (reading g .form) n .next ≡ n) → reading g .next ≡ s .args .at + lineLength (drop (s .args .at) (s .args .s .now)) + 1
 next s g e has-next = next-line (s .args .s .now) (s .args .at) (s .args .form) (s .pre) g e has-next
 
-enum-known-form : tie.Need-enum-known-form
-enum-known-form c = search needs
-
 sub-result : tie.Need-sub-result
 unfolding formed
 sub-result c = omega (arith, next (c .before .before .before .before) _ (c .before .form .given .1) (λ n. refl))
-
-enum-known-form-2 : tie.Need-enum-known-form-2
-enum-known-form-2 c = search needs
 
 sub-result-2 : tie.Need-sub-result-2
 unfolding formed
 sub-result-2 c = omega (arith, next (c .before .before .before .before) _ (c .before .form2 .given .1) (λ n. refl))
 
-enum-known-form-3 : tie.Need-enum-known-form-3
-enum-known-form-3 c = search needs
-
 sub-result-3 : tie.Need-sub-result-3
 unfolding formed
 sub-result-3 c = omega (arith, next (c .before .before .before .before) _ (c .before .form3 .given .1) (λ n. refl))
 
-enum-known-form-4 : tie.Need-enum-known-form-4
-enum-known-form-4 c = search needs
-
 sub-result-4 : tie.Need-sub-result-4
 unfolding formed
 sub-result-4 c = omega (arith, next (c .before .before .before .before) _ (c .before .form4 .given .1) (λ n. refl))
-
-enum-told : tie.Need-enum-told
-enum-told c = search needs
-
-newline-requires : tie.Need-newline-requires
-newline-requires c κs = search needs
-
-sub-result-5 : tie.Need-sub-result-5
-sub-result-5 c = search needs
 
 add-result : tie.Need-add-result
 add-result c = let s = c .before .before .before .before in omega (arith, c .newline .ensures, line-within (drop (s .args .at) (s .args .s .now)), length-drop (s .args .at) (s .args .s .now))
@@ -72,27 +51,24 @@ returns-4 : tie.Need-returns-4
 unfolding formed
 returns-4 c = omega (arith, next (c .before .before .before .before) _ (c .before .form4 .given .1) (λ n. refl))
 
-returns-5 : tie.Need-returns-5
-returns-5 c = search needs
-
 pub line-size-spec : {M : Type 1} → statement M
 line-size-spec =
     tie.close
     (tie.spec
-    enum-known-form
+    (λ c. search needs)
     sub-result
-    enum-known-form-2
+    (λ c. search needs)
     sub-result-2
-    enum-known-form-3
+    (λ c. search needs)
     sub-result-3
-    enum-known-form-4
+    (λ c. search needs)
     sub-result-4
-    enum-told
-    newline-requires
-    sub-result-5
+    (λ c. search needs)
+    (λ c κs. search needs)
+    (λ c. search needs)
     add-result
     returns
     returns-2
     returns-3
     returns-4
-    returns-5)
+    (λ c. search needs))

@@ -12,15 +12,6 @@ use Rattle.chunk_lines.proofs.parts.past_limit.Tie as tie
 returns : tie.Need-returns
 returns c = rw (le-leb 1_000_000 _ (c .if1 .taken))
 
-cast-taken : tie.Need-cast-taken
-cast-taken c = search needs
-
-cast-taken-2 : tie.Need-cast-taken-2
-cast-taken-2 c = search needs
-
-add-taken : tie.Need-add-taken
-add-taken c = search needs
-
 returns-2 : tie.Need-returns-2
 returns-2 c =
     let few = c .before .before .before in
@@ -37,4 +28,4 @@ returns-3 c =
 
 pub past-limit-spec : {M : Type 1} → statement M
 past-limit-spec =
-    tie.close (tie.spec returns cast-taken cast-taken-2 add-taken returns-2 returns-3)
+    tie.close (tie.spec returns (λ c. search needs) (λ c. search needs) (λ c. search needs) returns-2 returns-3)

@@ -8,21 +8,6 @@ use borrow.Author.Needs.{needs}
 use Rattle.chunk_lines.proofs.parts.whole_line.Statement.{statement}
 use Rattle.chunk_lines.proofs.parts.whole_line.Tie as tie
 
-cast-carry-out : tie.Need-cast-carry-out
-cast-carry-out c = search needs
-
-add-carry-out : tie.Need-add-carry-out
-add-carry-out c = search needs
-
-carry-out-requires : tie.Need-carry-out-requires
-carry-out-requires c κs = search needs
-
-after-line-requires : tie.Need-after-line-requires
-after-line-requires c κs = search needs
-
-same-length : tie.Need-same-length
-same-length c = search needs
-
 returns : tie.Need-returns
 returns c =
     let carried = c .before .before .before .before .before in
@@ -35,9 +20,9 @@ pub whole-line-spec : {M : Type 1} → statement M
 whole-line-spec =
     tie.close
     (tie.spec
-    cast-carry-out
-    add-carry-out
-    carry-out-requires
-    after-line-requires
-    same-length
+    (λ c. search needs)
+    (λ c. search needs)
+    (λ c κs. search needs)
+    (λ c κs. search needs)
+    (λ c. search needs)
     returns)

@@ -4,15 +4,6 @@ use borrow.Author.Needs.{needs}
 use Rattle.lines.proofs.calls.extend_walk.Statement.{statement}
 use Rattle.lines.proofs.calls.extend_walk.Tie as tie
 
-point-requires : tie.Need-point-requires
-point-requires c κs = search needs
-
-number-requires : tie.Need-number-requires
-number-requires c κs = search needs
-
-cast-t8 : tie.Need-cast-t8
-cast-t8 c = search needs
-
 returns : tie.Need-returns
 returns c =
     let at-start = c .before .before .before in
@@ -20,4 +11,4 @@ returns c =
     rw (c .number .ensures, ← toZ-ofZ (at-start .fits .x), ← toZ-ofZ (at-start .fits .y)) called
 
 pub extend-walk-spec : {M : Type 1} → statement M
-extend-walk-spec = tie.close (tie.spec point-requires number-requires cast-t8 returns)
+extend-walk-spec = tie.close (tie.spec (λ c κs. search needs) (λ c κs. search needs) (λ c. search needs) returns)

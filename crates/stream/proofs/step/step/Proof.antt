@@ -43,36 +43,15 @@ nothing c = let a = start-of (open-of (c .before)) .args in c .waits .ensures �
 
 -- ---- the needs
 
-halt-requires : tie.Need-halt-requires
-halt-requires c κs = search needs
-
 returns : tie.Need-returns
 returns c =
     let s = c .before .before .before .before in
     same-step (steps-no-more (s .args .last) (s .args .state) (s .args .sheet) (rest s) (room s) (c .before .if1 .taken)) (silently (c .halt .ensures))
 
-sub-if2 : tie.Need-sub-if2
-sub-if2 c = search needs
-
-halt-requires-2 : tie.Need-halt-requires-2
-halt-requires-2 c κs = search needs
-
 returns-2 : tie.Need-returns-2
 returns-2 c =
     let s = c .before .before .before .before .before in
     same-step (lacks-room (s .args .last) (s .args .state) (s .args .sheet) (rest s) (room s) (lt-ltb (room s) lineRoom (c .before .if2 .taken))) (silently (c .halt2 .ensures))
-
-sub-left : tie.Need-sub-left
-sub-left c = search needs
-
-at-end-requires : tie.Need-at-end-requires
-at-end-requires c κs = search needs
-
-close-requires : tie.Need-close-requires
-close-requires c κs = search needs
-
-same-length : tie.Need-same-length
-same-length c = search needs
 
 returns-3 : tie.Need-returns-3
 returns-3 c =
@@ -81,12 +60,6 @@ returns-3 c =
     let s = start-of opened in
     same-step (steps-to-close (s .args .last) (s .args .state) (s .args .sheet) (rest s) (room s) (opened .before .if1 .left) (has-room opened) (tells (due (tested .before)) (tested .if3 .taken))) (c .before .before .close .ensures)
 
-waits-requires : tie.Need-waits-requires
-waits-requires c κs = search needs
-
-halt-requires-3 : tie.Need-halt-requires-3
-halt-requires-3 c κs = search needs
-
 returns-4 : tie.Need-returns-4
 returns-4 c =
     let tested = c .before in
@@ -94,12 +67,6 @@ returns-4 c =
     let opened = open-of not-due in
     let s = start-of opened in
     same-step (steps-to-wait (s .args .last) (s .args .state) (s .args .sheet) (rest s) (room s) (opened .before .if1 .left) (has-room opened) (tells (due (not-due .before)) (not-due .if3 .left)) (tells (nothing (tested .before)) (tested .if4 .taken))) (silently (c .halt3 .ensures))
-
-line-step-requires : tie.Need-line-step-requires
-line-step-requires c κs = search needs
-
-same-length-2 : tie.Need-same-length-2
-same-length-2 c = search needs
 
 returns-5 : tie.Need-returns-5
 returns-5 c =
@@ -113,19 +80,19 @@ pub step-spec : {M : Type 1} → statement M
 step-spec =
     tie.close
     (tie.spec
-    halt-requires
+    (λ c κs. search needs)
     returns
-    sub-if2
-    halt-requires-2
+    (λ c. search needs)
+    (λ c κs. search needs)
     returns-2
-    sub-left
-    at-end-requires
-    close-requires
-    same-length
+    (λ c. search needs)
+    (λ c κs. search needs)
+    (λ c κs. search needs)
+    (λ c. search needs)
     returns-3
-    waits-requires
-    halt-requires-3
+    (λ c κs. search needs)
+    (λ c κs. search needs)
     returns-4
-    line-step-requires
-    same-length-2
+    (λ c κs. search needs)
+    (λ c. search needs)
     returns-5)
