@@ -5,13 +5,10 @@ use borrow.Author.Needs.{needs}
 use Rattle.plots.proofs.answered.Statement.{statement}
 use Rattle.plots.proofs.answered.Tie as tie
 
-count-requires : tie.Need-count-requires
-count-requires c κs = search needs
-
 returns : tie.Need-returns
 returns c =
     let start = c .before .before in
     rw (c .count .ensures .1, toZ-ofZ w64 (start .args .got) (start .fits .got))
 
 pub answered-spec : {M : Type 1} → statement M
-answered-spec = tie.close (tie.spec count-requires returns)
+answered-spec = tie.close (tie.spec (λ c κs. search needs) returns)

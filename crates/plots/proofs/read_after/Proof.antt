@@ -28,24 +28,6 @@ failed-none (negsuc k) room h = refl
 given : (c : tie.After-read) → (let a = c .before .before .before .before .args in let g = given-to (c .read) in (g .0 ≡ pos 0) × (g .1 .0 .now ≡ take (length (a .buf .now) - a .have) (drop (a .have) (a .buf .now))))
 given c = (refl, refl)
 
-sub-part : tie.Need-sub-part
-sub-part c = search needs
-
-part-part-start : tie.Need-part-part-start
-part-part-start c = search needs
-
-part-part-end : tie.Need-part-part-end
-part-part-end c = search needs
-
-read-requires : tie.Need-read-requires
-read-requires c κs = search needs
-
-answered-requires : tie.Need-answered-requires
-answered-requires c κs = search needs
-
-same-length : tie.Need-same-length
-same-length c = search needs
-
 returns : tie.Need-returns
 returns c =
     let at-answered = c .before .before in
@@ -62,10 +44,10 @@ pub read-after-spec : {M : Type 1} → statement M
 read-after-spec =
     tie.close
     (tie.spec
-    sub-part
-    part-part-start
-    part-part-end
-    read-requires
-    answered-requires
-    same-length
+    (λ c. search needs)
+    (λ c. search needs)
+    (λ c. search needs)
+    (λ c κs. search needs)
+    (λ c κs. search needs)
+    (λ c. search needs)
     returns)

@@ -111,12 +111,6 @@ read-inside c =
 
 -- ---- the needs
 
-start-requires : tie.Need-start-requires Inv-loop μ-loop
-start-requires c κs = search needs
-
-new-sheet-requires : tie.Need-new-sheet-requires Inv-loop μ-loop
-new-sheet-requires c κs = search needs
-
 loop-holds : tie.Need-loop-holds Inv-loop μ-loop
 loop-holds c =
     record {
@@ -128,18 +122,6 @@ loop-holds c =
       possible = rw (c .before .start .ensures, c .new-sheet .ensures) start-possible;
     }
 
-sub-feed : tie.Need-sub-feed Inv-loop μ-loop
-sub-feed c = search needs
-
-part-feed-start : tie.Need-part-feed-start Inv-loop μ-loop
-part-feed-start c = search needs
-
-part-feed-end : tie.Need-part-feed-end Inv-loop μ-loop
-part-feed-end c = search needs
-
-feed-requires : tie.Need-feed-requires Inv-loop μ-loop
-feed-requires c κs = search needs
-
 slice-reshare-prefix-write-all : tie.Need-slice-reshare-prefix-write-all Inv-loop μ-loop
 slice-reshare-prefix-write-all c = omega (arith, after-feed (c .before .before) .written)
 
@@ -148,31 +130,10 @@ slice-aggregate-write-all c =
     let f = c .before .before .before in
     sym (length-take-le (f .feed .result .filled) (f .feed .last .1 .1 .1 .1 .0) (omega (arith, after-feed f .written, room f)))
 
-write-all-requires : tie.Need-write-all-requires Inv-loop μ-loop
-write-all-requires c κs = search needs
-
-report-unwritten-requires : tie.Need-report-unwritten-requires Inv-loop μ-loop
-report-unwritten-requires c κs = search needs
-
-same-length : tie.Need-same-length Inv-loop μ-loop
-same-length c = search needs
-
-same-length-2 : tie.Need-same-length-2 Inv-loop μ-loop
-same-length-2 c = search needs
-
-returns : tie.Need-returns Inv-loop μ-loop
-returns c = search needs
-
 add-at : tie.Need-add-at Inv-loop μ-loop
 add-at c =
     let f = feed-of c in
     omega (arith, after-feed f .taken, loop-of f .loop .inv, sizes (loop-of f) .0)
-
-same-length-3 : tie.Need-same-length-3 Inv-loop μ-loop
-same-length-3 c = search needs
-
-same-length-4 : tie.Need-same-length-4 Inv-loop μ-loop
-same-length-4 c = search needs
 
 returns-2 : tie.Need-returns-2 Inv-loop μ-loop
 returns-2 c = let k = at-return c in search needs
@@ -214,9 +175,6 @@ read-after-requires c κs =
     let k = c .before .before .before in
     omega (arith, after-shift k .few, k .shift .kept .0, sizes (loop-of (feed-of (carried-of k))) .0)
 
-report-unread-requires : tie.Need-report-unread-requires Inv-loop μ-loop
-report-unread-requires c κs = search needs
-
 same-length-5 : tie.Need-same-length-5 Inv-loop μ-loop
 same-length-5 c =
     let r = c .before .before .before .before in
@@ -227,9 +185,6 @@ same-length-6 : tie.Need-same-length-6 Inv-loop μ-loop
 same-length-6 c =
     let f = feed-of (carried-of (shift-of (c .before .before .before .before))) in
     room f ∙ loop-of f .loop .inv .out-size
-
-returns-3 : tie.Need-returns-3 Inv-loop μ-loop
-returns-3 c = search needs
 
 add-have : tie.Need-add-have Inv-loop μ-loop
 add-have c = omega (arith, read-inside (read-of c) .0)
@@ -265,33 +220,33 @@ run-spec =
     (tie.spec
     Inv-loop
     μ-loop
-    start-requires
-    new-sheet-requires
+    (λ c κs. search needs)
+    (λ c κs. search needs)
     loop-holds
-    sub-feed
-    part-feed-start
-    part-feed-end
-    feed-requires
+    (λ c. search needs)
+    (λ c. search needs)
+    (λ c. search needs)
+    (λ c κs. search needs)
     slice-reshare-prefix-write-all
     slice-aggregate-write-all
-    write-all-requires
-    report-unwritten-requires
-    same-length
-    same-length-2
-    returns
+    (λ c κs. search needs)
+    (λ c κs. search needs)
+    (λ c. search needs)
+    (λ c. search needs)
+    (λ c. search needs)
     add-at
-    same-length-3
-    same-length-4
+    (λ c. search needs)
+    (λ c. search needs)
     returns-2
     sub-if3
     loop-less
     loop-again
     shift-requires
     read-after-requires
-    report-unread-requires
+    (λ c κs. search needs)
     same-length-5
     same-length-6
-    returns-3
+    (λ c. search needs)
     add-have
     loop-less-2
     loop-again-2)
