@@ -1,5 +1,4 @@
 // One line of the text program, carried out: what it does with the walk and the sheet, and what is printed of it.
-ghost use mathlib.Core.Path.{_≡_};
 ghost use Rattle.outline.specs.WalkCalls.{endCall};
 ghost use Rattle.parsing.specs.ReadForm.{reading};
 ghost use Rattle.text_program.specs.Program.{carriedWalk, carriedEnd, carryOut};

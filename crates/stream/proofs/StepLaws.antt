@@ -1,16 +1,15 @@
 -- Which way a step goes, by the code's tests.
-use Prim.Native.Nat.{ℕ, _≤_}
+use Prim.Native.Nat.{ℕ}
 use mathlib.Core.Path.{_≡_, refl, ap₂, _∙_}
 use mathlib.Core.Bool.{Bool, true, false, not, _&&_, _||_, cond}
 use mathlib.Core.List.{List}
 use lib.Dec.{eqb, ltb}
 use lib.ListN.{length}
-use borrow.Author.Tests.{le-leb}
 use Rattle.integers.proofs.Flags.{both-failed}
 use Rattle.outline.specs.declared.Sheet.{Sheet}
 use Rattle.printing.specs.Buffer.{lineRoom}
 use Rattle.text_program.specs.declared.State.{State}
-use Rattle.text_program.specs.Stream.{Step, halted, closing, ending, lineStep, step}
+use Rattle.text_program.specs.Stream.{Step, halted, closing, lineStep, step}
 use Rattle.stream.specs.private.RoomForLine.{stepWithRoom}
 
 module _ (final : Bool) (st : State) (s : Sheet) (chunk : List ℕ) (room : ℕ) where

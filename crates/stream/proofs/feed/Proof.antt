@@ -1,11 +1,10 @@
 -- `stream::feed` meets its contract: the loop takes the call's steps one after the other.
 use Prim.Native.Nat.{_+_, _-_}
-use mathlib.Core.Path.{_≡_, refl, sym, ap}
+use mathlib.Core.Path.{_≡_, sym, ap}
 use mathlib.Core.Bool.{true, cond}
 use native.Mathlib.Omega.{arith}
 use borrow.Author.Needs.{needs}
 use lib.ListN.{length, drop}
-use lib.Seq.{drop-drop}
 use Rattle.text_program.proofs.Progress.{workLeft}
 use Rattle.stream.proofs.FeedLaws.{SoFar, none-yet, to-within, step-within, step-less, step-more}
 use Rattle.stream.proofs.feed.Statement.{statement}
