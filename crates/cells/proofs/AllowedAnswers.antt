@@ -7,7 +7,7 @@ use native.Mathlib.Omega.{arith}
 use Rattle.centroid.specs.declared.CellSums.{CellSums}
 use Rattle.cells.specs.declared.Run.{Run}
 use Rattle.cells.specs.declared.RegionAnswer.{RegionAnswer}
-use Rattle.cells.specs.declared.RegionAnswer.the-variants.{Sums, BadRun, OutOfOrder, TooManyRuns}
+use Rattle.cells.specs.declared.RegionAnswer.the-variants.{BadRun, OutOfOrder}
 use Rattle.cells.specs.CellSums.{regionSums}
 use Rattle.cells.specs.RegionCall.{RegionOutcome, refused, badRun, anyBad, liesAfter, disordered, tooMany, regionCall, reading, Answers}
 use Rattle.cells.proofs.RunLimits.{run}

@@ -12,7 +12,7 @@ use lib.IntN.{ℤ, natAbs}
 use borrow.Author.Tests.{ltb-false, le-ltb, eqb-false, ne-eqb}
 use Rattle.integers.proofs.Ring.{Quote, quote}
 use Rattle.integers.proofs.Order.{natAbs-add}
-use Rattle.integers.proofs.Bounds.{Within, bound, within}
+use Rattle.integers.proofs.Bounds.{bound, within}
 use Rattle.integers.proofs.SignedCode.{Code, both, size, steps}
 use Rattle.integers.proofs.SizedNumbers.{Sized, sized, numbers as sizedNumbers, bounds, at-most}
 use Rattle.outline.specs.declared.Position.{Position}

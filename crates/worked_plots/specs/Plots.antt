@@ -1,6 +1,5 @@
 -- Document 01, "Plots worked by hand": what the plots that carry no ✱ ask, for the program that runs them.
 use Prim.Native.Nat.{ℕ, zero, suc, _%_}
-use mathlib.Core.Bool.{true}
 use mathlib.Core.List.{List, [], _∷_, _++_}
 use lib.ListN.{getD}
 use lib.IntN.{ℤ, pos, negℤ}

@@ -1,5 +1,5 @@
 -- `product_over` tests d × v by the laws of `ProductTest`, and makes the product only where it fits.
-use mathlib.Core.Path.{_≡_, sym, _∙_, ap, subst}
+use mathlib.Core.Path.{sym, _∙_, ap, subst}
 use lib.IntN.{pos, _*ℤ_}
 use mir.Syntax.{w64}
 use mir.Val.{SFits, ofZ}

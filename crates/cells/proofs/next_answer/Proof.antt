@@ -3,7 +3,7 @@ use mathlib.Core.Path.{_≡_, sym, subst}
 use mathlib.Core.Bool.{false}
 use Prim.Native.Nat.{_^_}
 use borrow.Author.Needs.{needs}
-use Rattle.cells.specs.RegionCall.{badRun, reading}
+use Rattle.cells.specs.RegionCall.{badRun}
 use Rattle.cells.specs.private.Scan.{answerWith, SumsWithin}
 use Rattle.integers.proofs.Flags.{tells}
 use Rattle.cells.proofs.SumLaws.{in-grid, run-within}

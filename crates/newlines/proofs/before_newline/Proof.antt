@@ -1,5 +1,5 @@
 -- `before_newline` meets its contract, by the test of each path.
-use mathlib.Core.Path.{_≡_, refl}
+use mathlib.Core.Path.{refl}
 use native.Mathlib.Omega.{arith}
 use borrow.Author.Tests.{eq-eqb, ne-eqb}
 use Rattle.newlines.proofs.before_newline.Statement.{statement}
