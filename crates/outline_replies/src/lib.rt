@@ -27,7 +27,7 @@ fn no_totals() -> Totals
 }
 
 // The totals that an answer of the list call tells.
-pub fn list_totals(answer: OutlineAnswer) -> Totals
+pub fn totals_of_list(answer: OutlineAnswer) -> Totals
     ensures { λ r. ⌜ r ≡ listReading answer .totals ⌝ }
 {
     match answer {
@@ -38,7 +38,7 @@ pub fn list_totals(answer: OutlineAnswer) -> Totals
 }
 
 // The totals that an answer of the map call tells.
-pub fn map_totals(answer: MapAnswer) -> Totals
+pub fn totals_of_map(answer: MapAnswer) -> Totals
     ensures { λ r. ⌜ r ≡ mapReading answer .totals ⌝ }
 {
     match answer {
@@ -50,7 +50,7 @@ pub fn map_totals(answer: MapAnswer) -> Totals
 }
 
 // The totals that an answer of the end of a walk tells.
-pub fn end_totals(answer: EndAnswer) -> Totals
+pub fn totals_of_end(answer: EndAnswer) -> Totals
     ensures { λ r. ⌜ r ≡ endTotals answer ⌝ }
 {
     match answer {
@@ -86,7 +86,7 @@ pub fn outline_totals_reply(points: &[i32], out: &mut [i64]) -> u32
     ensures { λ r. ⌜ record { number = r; buffer = now (out .exit) } ≡ totalsReply (listCall (now (points .entry))) (now (out .entry)) ⌝ }
 {
     let answer = outline_calls::outline_totals(points);
-    put_totals(answer.number(), list_totals(answer), out)
+    put_totals(answer.number(), totals_of_list(answer), out)
 }
 
 // The map call on six totals: 0, 3, 4 or 5, and the six mapped totals.
@@ -94,7 +94,7 @@ pub fn map_totals_reply(m: AffineMap, t: Totals, out: &mut [i64]) -> u32
     ensures { λ r. ⌜ record { number = r; buffer = now (out .exit) } ≡ totalsReply (mapCall m t) (now (out .entry)) ⌝ }
 {
     let answer = affine::map_totals(m, t);
-    put_totals(answer.number(), map_totals(answer), out)
+    put_totals(answer.number(), totals_of_map(answer), out)
 }
 
 // The centre of six outline totals: 0, 11 or 27, and the centre's x and y.

@@ -17,7 +17,7 @@ fn no_sums() -> CellSums
 }
 
 // The sums that an answer tells.
-pub fn region_sums(answer: RegionAnswer) -> CellSums
+pub fn sums_of_region(answer: RegionAnswer) -> CellSums
     ensures { λ r. ⌜ r ≡ reading answer .sums ⌝ }
 {
     match answer {
@@ -29,7 +29,7 @@ pub fn region_sums(answer: RegionAnswer) -> CellSums
 }
 
 // The index of a run that an answer tells, 0 but with 6 and 7.
-pub fn region_index(answer: RegionAnswer) -> usize
+pub fn index_of_region(answer: RegionAnswer) -> usize
     ensures { λ r. ⌜ r ≡ reading answer .index ⌝ }
 {
     match answer {
@@ -44,8 +44,8 @@ pub fn region_index(answer: RegionAnswer) -> usize
 pub fn region_reply(answer: RegionAnswer, out: &mut [i64]) -> u32
     ensures { λ r. ⌜ record { number = r; buffer = now (out .exit) } ≡ regionReply (indexCapped (reading answer)) (now (out .entry)) ⌝ }
 {
-    let s = region_sums(answer);
-    let index = lesser(region_index(answer), 4096);
+    let s = sums_of_region(answer);
+    let index = lesser(index_of_region(answer), 4096);
     let values = [s.count, s.x, s.y, s.xx, s.xy, s.yy, index as i64];
     put_values(&values, answer.number(), out)
 }

@@ -6,11 +6,11 @@ mod plots;
 mod show;
 
 use outline::Position;
-use outline_replies::end_totals;
-use outline_replies::list_totals;
-use outline_replies::map_totals;
-use region_replies::region_index;
-use region_replies::region_sums;
+use outline_replies::totals_of_end;
+use outline_replies::totals_of_list;
+use outline_replies::totals_of_map;
+use region_replies::index_of_region;
+use region_replies::sums_of_region;
 use show::end_row;
 use show::show_coordinate;
 use show::show_integer;
@@ -25,7 +25,7 @@ fn limit_row(x: i32) {
     show_label(b"limit");
     show_coordinate(x);
     show_natural(answer.number() as u64);
-    show_totals(list_totals(answer));
+    show_totals(totals_of_list(answer));
     end_row();
 }
 
@@ -52,7 +52,7 @@ fn double_row(rounds: usize)
     show_label(b"double");
     show_natural(rounds as u64);
     show_natural(answer.number() as u64);
-    show_totals(map_totals(answer));
+    show_totals(totals_of_map(answer));
     end_row();
 }
 
@@ -65,7 +65,7 @@ fn sheet_row(earlier: u32) {
     show_label(b"sheet");
     show_natural(earlier as u64);
     show_natural(answer.number() as u64);
-    show_totals(end_totals(answer));
+    show_totals(totals_of_end(answer));
     show_natural(sheet.count as u64);
     show_totals(totals);
     end_row();
@@ -78,8 +78,8 @@ fn run_row(first: u32, length: u32) {
     show_natural(first as u64);
     show_natural(length as u64);
     show_natural(answer.number() as u64);
-    show_natural(region_index(answer) as u64);
-    show_sums(region_sums(answer));
+    show_natural(index_of_region(answer) as u64);
+    show_sums(sums_of_region(answer));
     end_row();
 }
 
@@ -92,7 +92,7 @@ fn walk_row(count: u32, a2: i64) {
     show_natural(count as u64);
     show_integer(a2);
     show_natural(answer.number() as u64);
-    show_totals(end_totals(answer));
+    show_totals(totals_of_end(answer));
     show_natural(sheet.count as u64);
     end_row();
 }

@@ -22,7 +22,7 @@ use outline::Walk;
 use outline_calls::EndReply;
 use outline_calls::OutlineAnswer;
 use outline_calls::PointReply;
-use outline_replies::list_totals;
+use outline_replies::totals_of_list;
 
 // The corners of a square, x and y in turn, anticlockwise.
 const SQUARE: [i32; 8] = [2000, -2000, 2000, 2000, -2000, 2000, -2000, -2000];
@@ -64,7 +64,7 @@ pub(crate) fn doubled_square(rounds: usize) -> MapAnswer
 {
     let numbers = square_numbers();
     let n = rounds * 8;
-    let totals = list_totals(outline_calls::outline_totals(&numbers[..n]));
+    let totals = totals_of_list(outline_calls::outline_totals(&numbers[..n]));
     affine::map_totals(DOUBLING, totals)
 }
 

@@ -11,8 +11,8 @@ map-totals-requires c κs = search needs
 number-requires : tie.Need-number-requires
 number-requires c κs = search needs
 
-map-totals-requires-2 : tie.Need-map-totals-requires-2
-map-totals-requires-2 c κs = search needs
+totals-of-map-requires : tie.Need-totals-of-map-requires
+totals-of-map-requires c κs = search needs
 
 put-totals-requires : tie.Need-put-totals-requires
 put-totals-requires c κs = search needs
@@ -25,7 +25,7 @@ returns c =
     let totals = c .before .before .before in
     let number = totals .before in
     let asked = number .before in
-    c .before .put-totals .ensures ∙ told (asked .before .args .out .now) (number .number .ensures) (totals .map-totals2 .ensures) (asked .map-totals .ensures)
+    c .before .put-totals .ensures ∙ told (asked .before .args .out .now) (number .number .ensures) (totals .totals-of-map .ensures) (asked .map-totals .ensures)
 
 pub map-totals-reply-spec : {M : Type 1} → statement M
-map-totals-reply-spec = tie.close (tie.spec map-totals-requires number-requires map-totals-requires-2 put-totals-requires same-length returns)
+map-totals-reply-spec = tie.close (tie.spec map-totals-requires number-requires totals-of-map-requires put-totals-requires same-length returns)

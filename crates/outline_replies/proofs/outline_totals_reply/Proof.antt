@@ -11,8 +11,8 @@ outline-totals-requires c κs = search needs
 number-requires : tie.Need-number-requires
 number-requires c κs = search needs
 
-list-totals-requires : tie.Need-list-totals-requires
-list-totals-requires c κs = search needs
+totals-of-list-requires : tie.Need-totals-of-list-requires
+totals-of-list-requires c κs = search needs
 
 put-totals-requires : tie.Need-put-totals-requires
 put-totals-requires c κs = search needs
@@ -25,7 +25,7 @@ returns c =
     let totals = c .before .before .before in
     let number = totals .before in
     let asked = number .before in
-    c .before .put-totals .ensures ∙ told (asked .before .args .out .now) (number .number .ensures) (totals .list-totals .ensures) (asked .outline-totals .ensures)
+    c .before .put-totals .ensures ∙ told (asked .before .args .out .now) (number .number .ensures) (totals .totals-of-list .ensures) (asked .outline-totals .ensures)
 
 pub outline-totals-reply-spec : {M : Type 1} → statement M
-outline-totals-reply-spec = tie.close (tie.spec outline-totals-requires number-requires list-totals-requires put-totals-requires same-length returns)
+outline-totals-reply-spec = tie.close (tie.spec outline-totals-requires number-requires totals-of-list-requires put-totals-requires same-length returns)

@@ -12,11 +12,11 @@ use Rattle.region_replies.specs.RegionReply.{regionReply}
 use Rattle.region_replies.proofs.region_reply.Statement.{statement}
 use Rattle.region_replies.proofs.region_reply.Tie as tie
 
-region-sums-requires : tie.Need-region-sums-requires
-region-sums-requires c κs = search needs
+sums-of-region-requires : tie.Need-sums-of-region-requires
+sums-of-region-requires c κs = search needs
 
-region-index-requires : tie.Need-region-index-requires
-region-index-requires c κs = search needs
+index-of-region-requires : tie.Need-index-of-region-requires
+index-of-region-requires c κs = search needs
 
 lesser-requires : tie.Need-lesser-requires
 lesser-requires c κs = search needs
@@ -47,14 +47,14 @@ module _ (c : tie.After-out) where
   abbrev capped : tie.After-lesser
   capped = fields .before
 
-  abbrev sums : tie.After-region-sums
+  abbrev sums : tie.After-sums-of-region
   sums = capped .before .before
 
   abbrev buffer : List ℤ
   buffer = sums .before .args .out .now
 
   abbrev told : RegionOutcome
-  told = record { number = number .number .result; index = capped .lesser .result; sums = sums .region-sums .result }
+  told = record { number = number .number .result; index = capped .lesser .result; sums = sums .sums-of-region .result }
 
   index-held : toZ w64 (told .index) ≡ pos (told .index)
   index-held = toZ-ofZ w64 (pos (told .index)) (cast-t7 capped)
@@ -64,15 +64,15 @@ module _ (c : tie.After-out) where
 
 returns : tie.Need-returns
 returns c =
-    let index-is = capped c .lesser .ensures ∙ ap (λ i. min i 4096) (capped c .before .region-index .ensures) in
-    held c ∙ (λ i. regionReply (record { number = number c .number .ensures i; index = index-is i; sums = sums c .region-sums .ensures i }) (buffer c))
+    let index-is = capped c .lesser .ensures ∙ ap (λ i. min i 4096) (capped c .before .index-of-region .ensures) in
+    held c ∙ (λ i. regionReply (record { number = number c .number .ensures i; index = index-is i; sums = sums c .sums-of-region .ensures i }) (buffer c))
 
 pub region-reply-spec : {M : Type 1} → statement M
 region-reply-spec =
     tie.close
     (tie.spec
-    region-sums-requires
-    region-index-requires
+    sums-of-region-requires
+    index-of-region-requires
     lesser-requires
     cast-t7
     slice-aggregate-put-values

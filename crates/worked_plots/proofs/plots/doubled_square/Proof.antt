@@ -26,8 +26,8 @@ slice-aggregate-outline-totals c = sym (length-take-le (c .before .before .args 
 outline-totals-requires : tie.Need-outline-totals-requires
 outline-totals-requires c κs = search needs
 
-list-totals-requires : tie.Need-list-totals-requires
-list-totals-requires c κs = search needs
+totals-of-list-requires : tie.Need-totals-of-list-requires
+totals-of-list-requires c κs = search needs
 
 map-totals-requires : tie.Need-map-totals-requires
 map-totals-requires c κs = search needs
@@ -35,7 +35,7 @@ map-totals-requires c κs = search needs
 returns : tie.Need-returns
 returns c =
     let n = c .before .before .before .before .before .args .rounds * 8 in
-    let listed = c .before .list-totals .ensures ∙ ap (λ r. r .totals) (c .before .before .outline-totals .ensures ∙ ap (λ l. listCall (take n l)) (c .before .before .before .before .square-numbers .ensures)) in
+    let listed = c .before .totals-of-list .ensures ∙ ap (λ r. r .totals) (c .before .before .outline-totals .ensures ∙ ap (λ l. listCall (take n l)) (c .before .before .before .before .square-numbers .ensures)) in
     c .map-totals .ensures ∙ ap (mapCall doubling) listed
 
 pub doubled-square-spec : {M : Type 1} → statement M
@@ -47,6 +47,6 @@ doubled-square-spec =
     array-share-prefix-numbers
     slice-aggregate-outline-totals
     outline-totals-requires
-    list-totals-requires
+    totals-of-list-requires
     map-totals-requires
     returns)
