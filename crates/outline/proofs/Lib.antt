@@ -4,6 +4,7 @@ pub mod EdgeSumLaws
 pub mod OtherTermsLaw
 pub mod IndexLaws
 pub mod Limits
+pub mod PossibleWalks
 pub mod CallCases
 pub mod Refusals
 pub mod OddTerms

@@ -40,9 +40,9 @@ unfolding sumOver
 one-edge-002 = refl
 
 -- From (2, 0) to (10, 4), still open: X6 is 96 by the table and 496 by source 002.
-abbrev openWalk : List Edge
-openWalk = openEdges (record { x = pos 2; y = pos 0 } ∷ record { x = pos 10; y = pos 4 } ∷ [])
+abbrev twoPoints : List Edge
+twoPoints = openEdges (record { x = pos 2; y = pos 0 } ∷ record { x = pos 10; y = pos 4 } ∷ [])
 
-pub open-walk-differs : (sumOver x6 openWalk ≡ pos 96) × (totals-002 openWalk .x6 ≡ pos 496)
+pub open-walk-differs : (sumOver x6 twoPoints ≡ pos 96) × (totals-002 twoPoints .x6 ≡ pos 496)
 unfolding openEdges sumOver
 open-walk-differs = (refl, refl)

@@ -1,4 +1,4 @@
 pub mod Sizes
 pub mod ListSteps
-pub mod PossibleWalks
+pub mod WalkTotals
 pub mod ReadingLaws

@@ -13,7 +13,7 @@ use Rattle.outline.specs.declared.Totals.{Totals}
 use Rattle.outline.specs.declared.Sizes.{Sizes}
 use Rattle.outline.specs.declared.Sheet.{Sheet}
 use Rattle.outline.specs.EdgeSums.{exceed}
-use Rattle.outline.specs.MapCall.{totalLimits}
+use Rattle.outline.specs.MapCall.{totalLimit, totalLimits}
 use Rattle.outline.specs.private.Fit.{Fit}
 use Rattle.outline.proofs.Limits.{exceed-fit}
 use Rattle.centroid.specs.Centroid.{CentroidOutcome, isCentre, firstCentre, centre, centred, signedBy, outlineCentroidCall}
@@ -57,13 +57,13 @@ centre-size : (n d : ℤ) → natAbs (centre n d) ≤ natAbs n
 unfolding centre
 centre-size n d = let a = pos (natAbs n) in first-size (natAbs n) n d (negℤ a) (suc (2 * natAbs n)) (omega (arith, nn-neg a)) (omega (arith, pp-neg a, nn-neg a))
 
-centred-length : (nx ny d : ℤ) → natAbs nx ≤ 10 ^ 18 → natAbs ny ≤ 10 ^ 18 → length (centreText (centred nx ny d)) ≤ 42
+centred-length : (nx ny d : ℤ) → natAbs nx ≤ totalLimit → natAbs ny ≤ totalLimit → length (centreText (centred nx ny d)) ≤ 42
 unfolding centreText
 centred-length nx ny d h k = simp length-append (omega (arith, field-length 18 (centre nx d) (omega (arith, centre-size nx d)), field-length 18 (centre ny d) (omega (arith, centre-size ny d))))
 
-signed-size : (a z : ℤ) → natAbs z ≤ 10 ^ 18 → natAbs (signedBy a z) ≤ 10 ^ 18
+signed-size : (a z : ℤ) → natAbs z ≤ totalLimit → natAbs (signedBy a z) ≤ totalLimit
 unfolding signedBy
-signed-size a z h = by-cond (λ k. natAbs k ≤ 10 ^ 18) (ltZ a (pos 0)) (λ e. omega (arith, natAbs-neg z)) (λ e. h)
+signed-size a z h = by-cond (λ k. natAbs k ≤ totalLimit) (ltZ a (pos 0)) (λ e. omega (arith, natAbs-neg z)) (λ e. h)
 
 -- Two numbers of 19 digits, for any totals: 11 leaves no centre where a total is too great.
 pub centre-length : (t : Totals) → length (centreText (outlineCentroidCall t)) ≤ 42

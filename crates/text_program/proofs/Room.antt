@@ -1,13 +1,12 @@
 -- A call writes no more than it has room for.
 use Prim.Native.Nat.{ℕ, _+_, _^_, _≤_, _<_}
-use mathlib.Core.Path.{_≡_}
-use mathlib.Core.Bool.{Bool, true, false, not, _&&_, _||_}
+use mathlib.Core.Bool.{Bool, not, _||_}
 use mathlib.Core.List.{List, [], _++_}
 use native.Mathlib.Omega.{arith}
 use lib.ListN.{length, take, length-append}
 use lib.IntN.{ℤ, pos, negsuc, natAbs, _+ℤ_}
 use lib.Dec.{eqb, ltb, leb}
-use borrow.Author.Tests.{ltb-false, leb-false, not-false}
+use borrow.Author.Tests.{leb-false, not-false}
 use Rattle.integers.proofs.Flags.{both-failed}
 use Rattle.integers.proofs.Order.{natAbs-parts, sum-parts}
 use Rattle.outline.specs.declared.Position.{Position}
@@ -17,9 +16,10 @@ use Rattle.outline.specs.declared.Sheet.{Sheet}
 use Rattle.outline.specs.EdgeSums.{plus, exceed}
 use Rattle.outline.specs.ListCall.{outside}
 use Rattle.outline.specs.MapCall.{totalLimits}
-use Rattle.outline.specs.WalkCalls.{share, addedTotals, impossibleWalk, impossibleSheet, WalkOutcome, EndOutcome, beginCall, pointCall, endCall, abandonCall}
+use Rattle.outline.specs.WalkCalls.{addedTotals, impossibleWalk, impossibleSheet, WalkOutcome, EndOutcome, beginCall, pointCall, endCall, abandonCall}
 use Rattle.outline.specs.private.Fit.{Fit}
 use Rattle.outline.proofs.Limits.{exceed-fit}
+use Rattle.outline.proofs.PossibleWalks.{possible-open, sheet-within}
 use Rattle.text_program.specs.declared.State.{State}
 use Rattle.parsing.specs.Grammar.{Form, begin, end, abandon, point, other, formOf}
 use Rattle.printing.specs.Output.{refusalLine}
@@ -67,19 +67,6 @@ pub record Prints (c : Carried) : Type 0 where
   pub short : length (c .output) ≤ lineRoom
   pub sheet : SheetFits (c .sheet)
 
--- What 28 lets pass.
-possible-count : (w : Walk) → impossibleWalk w ≡ false → w .is_open ≡ true → w .count ≤ 1024
-unfolding impossibleWalk
-possible-count w e o =
-    let many = ltb 1024 (w .count) in
-    let points = not (eqb (w .count) 0) && (outside (w .first) || outside (w .last)) in
-    let totals = exceed (share (w .count)) (w .totals) in
-    ltb-false 1024 (w .count) (both-failed many points (both-failed (many || points) totals (rw o at e) .0) .0)
-
-possible-sheet : (s : Sheet) → impossibleSheet s ≡ false → Fit totalLimits (s .totals)
-unfolding impossibleSheet
-possible-sheet s e = exceed-fit totalLimits (s .totals) (both-failed (ltb 64 (s .count)) (exceed totalLimits (s .totals)) e .1)
-
 -- Refusals have two digits at most.
 abbrev Small : WalkOutcome → Type 0
 Small r = r .number < 100
@@ -115,7 +102,7 @@ module _ (line : ℕ) (h : line ≤ 2 ^ 32) (s : Sheet) (f : SheetFits s) where
       let sums = exceed-fit totalLimits (plus (s .totals) (addedTotals w)) e in
       let count : s .count + 1 < 2 ^ 32 = omega (arith, leb-false 64 (s .count) room) in
       record {
-        short = outline-length (s .count + 1) (w .count) (addedTotals w) count (omega (arith, possible-count w (both .0) (not-false (w .is_open) o))) (added-within (s .totals) (addedTotals w) (possible-sheet s (both .1)) sums);
+        short = outline-length (s .count + 1) (w .count) (addedTotals w) count (omega (arith, possible-open w (both .0) (not-false (w .is_open) o) .count)) (added-within (s .totals) (addedTotals w) (exceed-fit totalLimits (s .totals) (sheet-within s (both .1))) sums);
         sheet = record { count = count; totals = wider (plus (s .totals) (addedTotals w)) sums };
       })))))
     where

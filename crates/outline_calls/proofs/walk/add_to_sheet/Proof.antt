@@ -9,7 +9,8 @@ use Rattle.outline.specs.EdgeSums.{plus, exceed}
 use Rattle.outline.specs.MapCall.{totalLimits}
 use Rattle.outline.specs.WalkCalls.{sheetOf, addedTotals, endCall}
 use Rattle.integers.proofs.Flags.{tells}
-use Rattle.outline_calls.proofs.PossibleWalks.{possible-open, closed-within, sheet-within}
+use Rattle.outline.proofs.PossibleWalks.{possible-open, sheet-within}
+use Rattle.outline_calls.proofs.WalkTotals.{closed-within}
 use Rattle.outline_calls.proofs.walk.add_to_sheet.Statement.{statement}
 use Rattle.outline_calls.proofs.walk.add_to_sheet.Tie as tie
 

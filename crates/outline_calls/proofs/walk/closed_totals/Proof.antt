@@ -1,7 +1,8 @@
 -- `outline_calls::walk::closed_totals` meets its contract: the ends of a walk that 28 does not refuse can be joined.
 use mathlib.Core.Path.{_≡_}
 use native.Mathlib.Omega.{arith}
-use Rattle.outline_calls.proofs.PossibleWalks.{possible-open, walked-within}
+use Rattle.outline.proofs.PossibleWalks.{possible-open}
+use Rattle.outline_calls.proofs.WalkTotals.{walked-within}
 use Rattle.outline_calls.proofs.walk.closed_totals.Statement.{statement}
 use Rattle.outline_calls.proofs.walk.closed_totals.Tie as tie
 

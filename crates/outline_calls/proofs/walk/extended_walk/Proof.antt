@@ -4,7 +4,8 @@ use Prim.Native.Nat.{_+_}
 use borrow.Author.Needs.{needs}
 use borrow.Author.Tests.{eq-eqb, ne-eqb}
 use Rattle.outline.specs.WalkCalls.{openWalk, extended}
-use Rattle.outline_calls.proofs.PossibleWalks.{possible-open, walked-within}
+use Rattle.outline.proofs.PossibleWalks.{possible-open}
+use Rattle.outline_calls.proofs.WalkTotals.{walked-within}
 use Rattle.outline_calls.proofs.walk.extended_walk.Statement.{statement}
 use Rattle.outline_calls.proofs.walk.extended_walk.Tie as tie
 
