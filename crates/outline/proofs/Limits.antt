@@ -26,7 +26,7 @@ use Rattle.outline.specs.private.Fit.{Fit}
 use Rattle.integers.proofs.Flags.{or-left, or-right, neither, none-of-six}
 use Rattle.outline.proofs.Every.{All, all-append, all-take}
 use Rattle.outline.proofs.EdgeSumLaws.{coordinates, path, around}
-use Rattle.outline.proofs.IndexLaws.{points-numbers, numbers-points, length-numbers}
+use Rattle.outline.proofs.IndexLaws.{points-numbers, length-numbers}
 
 -- ---- the limits as orders
 
@@ -111,10 +111,6 @@ accepts-outlines zs o = rw (ne-eqb (length zs % 2) 1 (o .even), le-ltb (length (
 -- The same for a list of points.
 pub accepts-points : (ps : List Position) → Outline ps → listCall (numbers ps) ≡ accepted (outlineTotals ps)
 accepts-points ps o = rw (points-numbers ps) at (accepts-outlines (numbers ps) (record { even = rw (length-numbers ps) (λ e. omega arith); outline = rw (points-numbers ps) o }))
-
--- A list that is accepted is the list of its points.
-pub accepted-numbers : (zs : List ℤ) (t : Totals) → listCall zs ≡ accepted t → numbers (points zs) ≡ zs
-accepted-numbers zs t e = numbers-points zs (accepts-only-outlines zs t e .0 .even)
 
 -- ---- sizes of sums
 

@@ -21,11 +21,6 @@ use Rattle.outline.proofs.Limits.{Inside, not-outside, fit-exceed, open
 
 -- ---- one point more, and the closing edge
 
--- The first point adds no edge.
-pub first-point : (w : Walk) (p : Position) → w .count ≡ 0 → extended w p .totals ≡ w .totals
-unfolding extended
-first-point w p e = rw e
-
 pub extended-is : (ps : List Position) (p : Position) → extended (walkOf ps) p ≡ walkOf (ps ++ p ∷ [])
 unfolding extended openEdges sumOver
 extended-is [] p = refl
