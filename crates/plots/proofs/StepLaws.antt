@@ -3,6 +3,7 @@ use Prim.Native.Nat.{ℕ}
 use mathlib.Core.Path.{_≡_, refl}
 use mathlib.Core.Bool.{Bool, true, false}
 use mathlib.Core.List.{List, [], _∷_}
+use lib.Dec.{eqb}
 use lib.IntN.{ℤ, pos}
 use lib.ListN.{length, replicate}
 use Rattle.outline.specs.declared.Sheet.{Sheet}
@@ -30,3 +31,15 @@ pub none-failed : {last : Bool} {st : State} {s : Sheet} {buffer input out : Lis
 none-failed none = refl
 none-failed (called room r descriptor text whole e d t w before) = none-failed before
 none-failed (received piece failed f before) = λ i. f i ∷ none-failed before i
+
+-- The piece that the last read gave; before the first read, one that is not empty.
+abbrev pub lastRead : {last : Bool} {st : State} {s : Sheet} {buffer input out : List ℕ} → LoopSteps last st s buffer input out → List ℕ
+lastRead none = 0 ∷ []
+lastRead (called room r descriptor text whole e d t w before) = lastRead before
+lastRead (received piece failed f before) = piece
+
+-- The end of the input was found where the last read gave no byte, and not before.
+pub end-found : {last : Bool} {st : State} {s : Sheet} {buffer input out : List ℕ} (steps : LoopSteps last st s buffer input out) → last ≡ eqb (length (lastRead steps)) 0
+end-found none = refl
+end-found (called room r descriptor text whole e d t w before) = end-found before
+end-found (received piece failed f before) = refl
