@@ -35,3 +35,8 @@ at-byte = refl
 pub newline-counted : (outputOf closed newSheet (linesFrom 0 32_999_996 [] (65 ∷ 10 ∷ 65 ∷ 10 ∷ [])) ≡ text ("R 1 21" ∷ "R 2 21" ∷ "S 0 0 0 0 0 0 0 - -" ∷ [])) × (outputOf closed newSheet (linesFrom 0 32_999_997 [] (65 ∷ 10 ∷ 65 ∷ 10 ∷ [])) ≡ text ("R 1 21" ∷ "R 2 10" ∷ "S 0 0 0 0 0 0 0 - -" ∷ []))
 unfolding over exceed impossibleWalk abandonCall outlineCentroidCall withFirst fields letterOf formOfFields formOf digits decimal signed totalsText centreText refusalLine sheetLine linesFrom tooFar carriedWalk carryOut outputOf
 newline-counted = (refl, refl)
+
+-- A last line without a newline ends with its last byte: A is carried out where it is byte 33,000,000, and is 10 where it is byte 33,000,001.
+pub unended-counted : (outputOf closed newSheet (linesFrom 0 32_999_999 [] (65 ∷ [])) ≡ text ("R 1 21" ∷ "S 0 0 0 0 0 0 0 - -" ∷ [])) × (outputOf closed newSheet (linesFrom 0 33_000_000 [] (65 ∷ [])) ≡ text ("R 1 10" ∷ "S 0 0 0 0 0 0 0 - -" ∷ []))
+unfolding over exceed impossibleWalk abandonCall outlineCentroidCall withFirst fields letterOf formOfFields formOf digits decimal signed totalsText centreText refusalLine sheetLine linesFrom tooFar carriedWalk carryOut outputOf
+unended-counted = (refl, refl)
