@@ -1,4 +1,4 @@
-pub mod Arguments
-pub mod Turns
-pub mod SoFar
-pub mod StepLaws
+mod Arguments
+mod Turns
+mod SoFar
+mod StepLaws

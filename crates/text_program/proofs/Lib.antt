@@ -1,22 +1,22 @@
-pub mod Worked
-pub mod WorkedEnds
+mod Worked
+mod WorkedEnds
 pub mod Forms
 pub mod Lines
-pub mod TooFar
-pub mod LongLine
-pub mod ReadingFurther
-pub mod StepCases
-pub mod StepRemains
-pub mod Steps
-pub mod FeedRemains
+mod TooFar
+mod LongLine
+mod ReadingFurther
+mod StepCases
+mod StepRemains
+mod Steps
+mod FeedRemains
 pub mod Progress
 pub mod CallEnds
 pub mod BytesRead
 pub mod Room
-pub mod LastCall
+mod LastCall
 pub mod Chunks
-pub mod LinesInTurn
-pub mod OutputLaws
-pub mod ChunksUses
-pub mod LineByLine
-pub mod LineByLineUses
+mod LinesInTurn
+mod OutputLaws
+mod ChunksUses
+mod LineByLine
+mod LineByLineUses
