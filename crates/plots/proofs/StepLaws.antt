@@ -1,4 +1,4 @@
--- What no steps of the loop have: a write to another place than standard output, one that was not whole, or a read that failed.
+-- What no steps of the loop have: a write to another place than standard output, one that was not whole, a read that failed, or an end of the input where the last read gave bytes.
 use Prim.Native.Nat.{ℕ}
 use mathlib.Core.Path.{_≡_, refl}
 use mathlib.Core.Bool.{Bool, true, false}
