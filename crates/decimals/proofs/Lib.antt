@@ -2,3 +2,4 @@ pub mod BufferLaws
 pub mod FieldLaws
 mod DigitLaws
 mod SignLaws
+mod WorkedFields

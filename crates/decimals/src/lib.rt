@@ -10,6 +10,8 @@ ghost use Rattle.decimals.specs.Decimal.{signed, field, fieldRoom};
 ghost use Rattle.decimals.specs.Buffer.{ifRoom, Written};
 use digits::up_to_twenty;
 
+const TAB: u8 = 9;
+
 // Room for a tab and a number of 64 bits.
 const FIELD_ROOM: usize = 21;
 
@@ -54,7 +56,7 @@ pub fn put_field(out: &mut [u8], at: usize, n: i64) -> usize
     if lacks_room(out.len(), at, FIELD_ROOM) {
         return at;
     }
-    out[at] = 9;
+    out[at] = TAB;
     put_number(out, at + 1, n)
 }
 
@@ -65,6 +67,6 @@ pub fn put_natural(out: &mut [u8], at: usize, n: u64) -> usize
     if lacks_room(out.len(), at, FIELD_ROOM) {
         return at;
     }
-    out[at] = 9;
+    out[at] = TAB;
     up_to_twenty(out, at + 1, n)
 }

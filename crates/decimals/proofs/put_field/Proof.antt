@@ -34,7 +34,7 @@ put-number-requires : tie.Need-put-number-requires
 put-number-requires c κs =
     let roomy = c .before in
     let s = roomy .before .before .before in
-    rw (held s) (fits-behind (s .args .out .now) (s .args .at) 9 (signed (s .args .n)) (fits roomy))
+    rw (held s) (fits-behind (s .args .out .now) (s .args .at) _ (signed (s .args .n)) (fits roomy))
 
 same-length : tie.Need-same-length
 same-length c = c .before .before .put-number .kept .0 ∙ simp length-set
@@ -43,7 +43,7 @@ returns-2 : tie.Need-returns-2
 returns-2 c =
     let roomy = c .before .before .before .before in
     let s = roomy .before .before .before in
-    text-written fieldRoom (s .args .out .now) (s .args .at) (roomy .before .lacks-room .ensures) (field (s .args .n)) (roomy .if1 .left) (written-behind (s .args .out .now) (s .args .at) 9 (signed (s .args .n)) (fits roomy) (rw (held s) at (c .before .before .put-number .ensures)))
+    text-written fieldRoom (s .args .out .now) (s .args .at) (roomy .before .lacks-room .ensures) (field (s .args .n)) (roomy .if1 .left) (written-behind (s .args .out .now) (s .args .at) _ (signed (s .args .n)) (fits roomy) (rw (held s) at (c .before .before .put-number .ensures)))
 
 pub put-field-spec : {M : Type 1} → statement M
 put-field-spec = tie.close (tie.spec (λ c κs. search needs) returns slice-write-out add-put-number put-number-requires same-length returns-2)

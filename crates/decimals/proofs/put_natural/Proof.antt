@@ -30,7 +30,7 @@ unfolding signed
 up-to-twenty-requires c κs =
     let roomy = c .before in
     let s = roomy .before .before .before in
-    fits-behind (s .args .out .now) (s .args .at) 9 (decimal (s .args .n)) (fits roomy)
+    fits-behind (s .args .out .now) (s .args .at) _ (decimal (s .args .n)) (fits roomy)
 
 same-length : tie.Need-same-length
 same-length c = c .before .before .up-to-twenty .kept .0 ∙ simp length-set
@@ -40,7 +40,7 @@ unfolding signed
 returns-2 c =
     let roomy = c .before .before .before .before in
     let s = roomy .before .before .before in
-    text-written fieldRoom (s .args .out .now) (s .args .at) (roomy .before .lacks-room .ensures) (field (pos (s .args .n))) (roomy .if1 .left) (written-behind (s .args .out .now) (s .args .at) 9 (decimal (s .args .n)) (fits roomy) (c .before .before .up-to-twenty .ensures))
+    text-written fieldRoom (s .args .out .now) (s .args .at) (roomy .before .lacks-room .ensures) (field (pos (s .args .n))) (roomy .if1 .left) (written-behind (s .args .out .now) (s .args .at) _ (decimal (s .args .n)) (fits roomy) (c .before .before .up-to-twenty .ensures))
 
 pub put-natural-spec : {M : Type 1} → statement M
 put-natural-spec = tie.close (tie.spec (λ c κs. search needs) returns slice-write-out add-up-to-twenty up-to-twenty-requires same-length returns-2)
