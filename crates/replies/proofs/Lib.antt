@@ -1,1 +1,2 @@
 pub mod ShortBuffer
+mod WorkedReplies
