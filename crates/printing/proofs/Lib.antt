@@ -1,1 +1,2 @@
 pub mod LineLengths
+mod WorkedOutput
