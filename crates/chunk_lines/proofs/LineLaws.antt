@@ -16,16 +16,16 @@ use Rattle.newlines.specs.LineLength.{lineLength}
 use Rattle.parsing.specs.ReadForm.{reading}
 use Rattle.text_program.specs.declared.State.{State}
 use Rattle.text_program.specs.Program.{carryOut}
-use Rattle.text_program.specs.Stream.{carriedStep, part, heldBytes, lineStep}
+use Rattle.text_program.specs.Stream.{carriedStep, part, goneBytes, lineStep}
 use Rattle.text_program.proofs.Forms.{zeros-line}
 use Rattle.text_program.proofs.Lines.{lineSize}
 use Rattle.chunk_lines.specs.private.Counting.{Counts, endingOver}
 
 -- A line of which bytes are gone has none of the forms; else its form is that of its bytes in the chunk.
-form-with-gone : (st : State) (bs : List ℕ) (form : LineForm) → reading form .form ≡ formOf bs → reading (cond (ltb 0 (st .held)) Other form) .form ≡ formOf (heldBytes st ++ bs)
-form-with-gone st bs form e = go (st .held)
+form-with-gone : (st : State) (bs : List ℕ) (form : LineForm) → reading form .form ≡ formOf bs → reading (cond (ltb 0 (st .gone)) Other form) .form ≡ formOf (goneBytes st ++ bs)
+form-with-gone st bs form e = go (st .gone)
   where
-    go : (held : ℕ) → reading (cond (ltb 0 held) Other form) .form ≡ formOf (replicate held 0 ++ bs)
+    go : (gone : ℕ) → reading (cond (ltb 0 gone) Other form) .form ≡ formOf (replicate gone 0 ++ bs)
     go zero = e
     go (suc k) = rw (lt-ltb 0 (suc k) (omega arith)) (sym (zeros-line k bs))
 
@@ -50,10 +50,10 @@ module _ (final : Bool) (st : State) (s : Sheet) {rest : List ℕ} {form : LineF
   is-size = let plus-one : lineLength rest + 1 ≡ suc (lineLength rest) = omega arith in k .bytes-here ∙ ap₂ (λ m n. min m n) (k .all-bytes ∙ plus-one) (k .all-left)
 
   abbrev Reached : Bool → Type 0
-  Reached t = (leb 1_000_000 (st .lines) || ltb 33_000_000 (st .bytes + st .held + size)) ≡ t
+  Reached t = (leb 1_000_000 (st .lines) || ltb 33_000_000 (st .bytes + st .gone + size)) ≡ t
 
-  limit-test : {t : Bool} → Reached t → (leb 1_000_000 (st .lines) || ltb 33_000_000 (st .bytes + st .held + lineSize rest)) ≡ t
-  limit-test e = ap (λ m. leb 1_000_000 (st .lines) || ltb 33_000_000 (st .bytes + st .held + m)) (sym is-size) ∙ e
+  limit-test : {t : Bool} → Reached t → (leb 1_000_000 (st .lines) || ltb 33_000_000 (st .bytes + st .gone + lineSize rest)) ≡ t
+  limit-test e = ap (λ m. leb 1_000_000 (st .lines) || ltb 33_000_000 (st .bytes + st .gone + m)) (sym is-size) ∙ e
 
   -- 10.
   pub goes-too-far : Reached true → lineStep final st s rest ≡ endingOver st s left
@@ -64,8 +64,8 @@ module _ (final : Bool) (st : State) (s : Sheet) {rest : List ℕ} {form : LineF
     -- The counters have room.
     pub counts : Counts st size
     counts =
-        let (few, small) = both-failed (leb 1_000_000 (st .lines)) (ltb 33_000_000 (st .bytes + st .held + size)) near in
-        record { lines = leb-false 1_000_000 (st .lines) few; bytes = ltb-false 33_000_000 (st .bytes + st .held + size) small }
+        let (few, small) = both-failed (leb 1_000_000 (st .lines)) (ltb 33_000_000 (st .bytes + st .gone + size)) near in
+        record { lines = leb-false 1_000_000 (st .lines) few; bytes = ltb-false 33_000_000 (st .bytes + st .gone + size) small }
 
     abbrev Unended : Bool → Type 0
     Unended t = (ltb left whole && not final) ≡ t
@@ -79,6 +79,6 @@ module _ (final : Bool) (st : State) (s : Sheet) {rest : List ℕ} {form : LineF
     goes-partly e = rw (limit-test near, whole-test e, is-size)
 
     -- The line is carried out.
-    pub goes-whole : Unended false → lineStep final st s rest ≡ carriedStep st (carryOut (st .lines + 1) (reading (cond (ltb 0 (st .held)) Other form) .form) (st .walk) s) size
+    pub goes-whole : Unended false → lineStep final st s rest ≡ carriedStep st (carryOut (st .lines + 1) (reading (cond (ltb 0 (st .gone)) Other form) .form) (st .walk) s) size
     unfolding lineStep
     goes-whole e = rw (limit-test near, whole-test e, is-size, form-with-gone st (take (lineLength rest) rest) form (k .is-form))

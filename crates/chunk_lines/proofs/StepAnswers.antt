@@ -30,4 +30,4 @@ same-step {before = before} {after} {to} {r} e h = subst (λ p. Steps p before t
 
 -- Part of a line writes nothing.
 pub partly : (st : State) (s : Sheet) (size : ℕ) {to : ℕ} {before : List ℕ} {r : Stepped} → (let q = part st s size in r ≡ record { state = q .state; sheet = q .sheet; used = q .used; filled = to; more = q .more }) → Steps (part st s size) before to before r
-partly st s size {to} {before} {r} = by-cond (λ q. r ≡ record { state = q .state; sheet = q .sheet; used = q .used; filled = to; more = q .more } → Steps q before to before r) (leb (st .held + size) 32) (λ t. silently) (λ t. silently)
+partly st s size {to} {before} {r} = by-cond (λ q. r ≡ record { state = q .state; sheet = q .sheet; used = q .used; filled = to; more = q .more } → Steps q before to before r) (leb (st .gone + size) 32) (λ t. silently) (λ t. silently)

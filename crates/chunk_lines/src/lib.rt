@@ -48,5 +48,5 @@ pub fn line_step(
     if unended(whole, left, last) {
         return part_of_line(state, sheet, size, filled);
     }
-    whole_line(state, sheet, with_gone(state.held, form), size, out, filled)
+    whole_line(state, sheet, with_gone(state.gone, form), size, out, filled)
 }

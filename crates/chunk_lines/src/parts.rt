@@ -36,12 +36,12 @@ pub(crate) fn line_size(form: LineForm, s: &[u8], at: usize) -> usize
 
 // Line 1,000,001 or byte 33,000,001 is reached.
 pub(crate) fn past_limit(state: State, size: usize) -> bool
-    ensures { λ r. ⌜ r ≡ (leb 1_000_000 (state .lines) || ltb 33_000_000 (state .bytes + state .held + size)) ⌝ }
+    ensures { λ r. ⌜ r ≡ (leb 1_000_000 (state .lines) || ltb 33_000_000 (state .bytes + state .gone + size)) ⌝ }
 {
     if 1_000_000 <= state.lines {
         return true;
     }
-    let taken = state.bytes as u64 + state.held as u64;
+    let taken = state.bytes as u64 + state.gone as u64;
     if 33_000_000 < taken {
         return true;
     }
@@ -63,7 +63,7 @@ pub(crate) fn end_reading(
     let ended = State {
         lines: state.lines,
         bytes: state.bytes,
-        held: state.held,
+        gone: state.gone,
         ended: true,
         written: false,
         walk,
@@ -92,8 +92,8 @@ pub(crate) fn part_of_line(state: State, sheet: Sheet, size: usize, filled: usiz
     requires { ⌜ Counts state size ⌝ }
     ensures { λ r. ⌜ r ≡ silent (part state sheet size) filled ⌝ }
 {
-    let held = state.held + size as u32;
-    if held <= 32 {
+    let gone = state.gone + size as u32;
+    if gone <= 32 {
         return Stepped {
             state,
             sheet,
@@ -106,7 +106,7 @@ pub(crate) fn part_of_line(state: State, sheet: Sheet, size: usize, filled: usiz
     let longer = State {
         lines: state.lines,
         bytes: state.bytes,
-        held,
+        gone,
         ended: false,
         written: false,
         walk,
@@ -121,10 +121,10 @@ pub(crate) fn part_of_line(state: State, sheet: Sheet, size: usize, filled: usiz
 }
 
 // A line of which bytes are gone has none of the forms, whatever is left of it.
-pub(crate) fn with_gone(held: u32, form: LineForm) -> LineForm
-    ensures { λ r. ⌜ r ≡ cond (ltb 0 held) Other form ⌝ }
+pub(crate) fn with_gone(gone: u32, form: LineForm) -> LineForm
+    ensures { λ r. ⌜ r ≡ cond (ltb 0 gone) Other form ⌝ }
 {
-    if 0 < held {
+    if 0 < gone {
         return LineForm::Other;
     }
     form
@@ -136,8 +136,8 @@ fn after_line(state: State, walk: Walk, size: usize) -> State
 {
     State {
         lines: state.lines + 1,
-        bytes: state.bytes + state.held + size as u32,
-        held: 0,
+        bytes: state.bytes + state.gone + size as u32,
+        gone: 0,
         ended: false,
         written: false,
         walk,

@@ -22,7 +22,7 @@ use Rattle.stream.specs.declared.Fed.{Fed}
 
 -- How many bytes may still be read where `size` are in the buffer: with byte 33,000,001, or a byte after it that is read with it, reading ends.
 abbrev pub unread : State → ℕ → ℕ
-unread st size = cond (st .ended) 0 (33_000_000 + 65_536 - (st .bytes + st .held + size))
+unread st size = cond (st .ended) 0 (33_000_000 + 65_536 - (st .bytes + st .gone + size))
 
 -- What falls with each turn: a byte that is read moves into the buffer, so it counts twice before; and the end of the input is found once.
 abbrev pub toDo : State → ℕ → Bool → ℕ
@@ -31,7 +31,7 @@ toDo st size last = 2 * unread st size + size + linesAhead st + cond last 0 1
 -- Numbers that the loop keeps.
 pub record Possible (st : State) (s : Sheet) : Type 0 where
   pub fits : Fits st s
-  pub within : st .ended ≡ false → st .bytes + st .held ≤ 33_000_000
+  pub within : st .ended ≡ false → st .bytes + st .gone ≤ 33_000_000
 
 -- At the start all is zero.
 pub start-possible : Possible start newSheet
@@ -67,10 +67,10 @@ module _ (last : Bool) (st : State) (s : Sheet) (chunk : List ℕ) (room : ℕ) 
   still-possible = record { fits = feed-room last st s chunk room (k .fits) .1; within = λ e. let c = feed-counted last st s chunk room e in c .within (k .within (c .reads)) }
 
   -- Where reading goes on, every byte that was read is counted.
-  counted : call .state .ended ≡ false → call .state .bytes + call .state .held + rest ≡ st .bytes + st .held + length chunk
+  counted : call .state .ended ≡ false → call .state .bytes + call .state .gone + rest ≡ st .bytes + st .gone + length chunk
   counted e = omega (arith, feed-counted last st s chunk room e .same, length-drop (call .used) chunk)
 
-  unread-before : call .state .ended ≡ false → unread st (length chunk) ≡ 33_000_000 + 65_536 - (st .bytes + st .held + length chunk)
+  unread-before : call .state .ended ≡ false → unread st (length chunk) ≡ 33_000_000 + 65_536 - (st .bytes + st .gone + length chunk)
   unread-before e = rw (feed-counted last st s chunk room e .reads)
 
   no-more-unread : unread (call .state) rest ≤ unread st (length chunk)
@@ -84,7 +84,7 @@ module _ (last : Bool) (st : State) (s : Sheet) (chunk : List ℕ) (room : ℕ) 
         go (inl e) = absurd (true≢false (sym e ∙ on))
         go (inr w) = w
 
-    near : call .state .bytes + call .state .held + rest ≤ 33_000_000
+    near : call .state .bytes + call .state .gone + rest ≤ 33_000_000
     near = omega (arith, length-drop (call .used) chunk, also (length (drop (call .used) chunk)) (waiting .near) (still-possible .within (waiting .reading .reads)))
       where
         also : {b : ℕ} (n : ℕ) → (0 < n → b + n ≤ 33_000_000) → b ≤ 33_000_000 → b + n ≤ 33_000_000
@@ -94,7 +94,7 @@ module _ (last : Bool) (st : State) (s : Sheet) (chunk : List ℕ) (room : ℕ) 
     less-after-read : (n : ℕ) → n ≤ 65_536 → toDo (call .state) (rest + n) (eqb n 0) < toDo st (length chunk) last
     less-after-read n m =
         let e = waiting .reading .reads in
-        let after : unread (call .state) (rest + n) ≡ 33_000_000 + 65_536 - (call .state .bytes + call .state .held + (rest + n)) = rw e in
+        let after : unread (call .state) (rest + n) ≡ 33_000_000 + 65_536 - (call .state .bytes + call .state .gone + (rest + n)) = rw e in
         let not-found : _≡_ {A = ℕ} (cond last 0 1) 1 = ap (λ b. cond b 0 1) (waiting .needs .not-final) in
         by-cond (λ m. 2 * unread (call .state) (rest + n) + (rest + n) + linesAhead (call .state) + m < toDo st (length chunk) last) (eqb n 0)
         (λ z. omega (arith, onward, counted e, unread-before e, near, eqb-true n 0 z))

@@ -28,7 +28,7 @@ module _ (final : Bool) (st : State) (s : Sheet) (chunk : List ℕ) (room : ℕ)
 
   -- What a step does where S is not written and there is room.
   abbrev opening : Step
-  opening = cond (st .ended) (closing st s) (cond (final && (eqb (length chunk) 0 && eqb (st .held) 0)) (closing st s) (cond (not final && eqb (length chunk) 0) (halted st s) (lineStep final st s chunk)))
+  opening = cond (st .ended) (closing st s) (cond (final && (eqb (length chunk) 0 && eqb (st .gone) 0)) (closing st s) (cond (not final && eqb (length chunk) 0) (halted st s) (lineStep final st s chunk)))
 
   module _ (on : st .written ≡ false) (roomy : ltb room lineRoom ≡ false) where
     opened : stepWithRoom final st s chunk room ≡ opening
@@ -40,17 +40,17 @@ module _ (final : Bool) (st : State) (s : Sheet) (chunk : List ℕ) (room : ℕ)
         on
 
     -- The S line is due.
-    pub steps-to-close : (st .ended || (final && (eqb (length chunk) 0 && eqb (st .held) 0))) ≡ true → stepWithRoom final st s chunk room ≡ closing st s
-    steps-to-close e = opened ∙ go (st .ended) (final && (eqb (length chunk) 0 && eqb (st .held) 0)) e
+    pub steps-to-close : (st .ended || (final && (eqb (length chunk) 0 && eqb (st .gone) 0))) ≡ true → stepWithRoom final st s chunk room ≡ closing st s
+    steps-to-close e = opened ∙ go (st .ended) (final && (eqb (length chunk) 0 && eqb (st .gone) 0)) e
       where
         go : (a b : Bool) → (a || b) ≡ true → cond a (closing st s) (cond b (closing st s) (cond (not final && eqb (length chunk) 0) (halted st s) (lineStep final st s chunk))) ≡ closing st s
         go true b e = refl
         go false b e = rw e
 
-    module _ (due : (st .ended || (final && (eqb (length chunk) 0 && eqb (st .held) 0))) ≡ false) where
+    module _ (due : (st .ended || (final && (eqb (length chunk) 0 && eqb (st .gone) 0))) ≡ false) where
       not-due : stepWithRoom final st s chunk room ≡ cond (not final && eqb (length chunk) 0) (halted st s) (lineStep final st s chunk)
       not-due =
-          let (a, b) = both-failed (st .ended) (final && (eqb (length chunk) 0 && eqb (st .held) 0)) due in
+          let (a, b) = both-failed (st .ended) (final && (eqb (length chunk) 0 && eqb (st .gone) 0)) due in
           opened ∙ ap₂ (λ a b. cond a (closing st s) (cond b (closing st s) (cond (not final && eqb (length chunk) 0) (halted st s) (lineStep final st s chunk)))) a b
 
       -- Nothing is left of the chunk, and more is to come.

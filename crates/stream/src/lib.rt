@@ -25,7 +25,7 @@ pub fn start() -> State
     State {
         lines: 0,
         bytes: 0,
-        held: 0,
+        gone: 0,
         ended: false,
         written: false,
         walk,

@@ -36,7 +36,7 @@ fn close(state: State, sheet: Sheet, out: &mut [u8], filled: usize) -> Stepped
     let closed = State {
         lines: state.lines,
         bytes: state.bytes,
-        held: state.held,
+        gone: state.gone,
         ended: true,
         written: true,
         walk,
@@ -52,7 +52,7 @@ fn close(state: State, sheet: Sheet, out: &mut [u8], filled: usize) -> Stepped
 
 // The S line is due: reading has ended, or the input has, and nothing of it is left.
 fn at_end(state: State, last: bool, left: usize) -> bool
-    ensures { λ r. ⌜ r ≡ (state .ended || (last && (eqb left 0 && eqb (state .held) 0))) ⌝ }
+    ensures { λ r. ⌜ r ≡ (state .ended || (last && (eqb left 0 && eqb (state .gone) 0))) ⌝ }
 {
     if state.ended {
         return true;
@@ -63,7 +63,7 @@ fn at_end(state: State, last: bool, left: usize) -> bool
     if left != 0 {
         return false;
     }
-    state.held == 0
+    state.gone == 0
 }
 
 // More of the input must be read.

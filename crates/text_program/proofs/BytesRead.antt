@@ -16,17 +16,17 @@ use Rattle.text_program.proofs.Steps.{steps-keep}
 
 -- The bytes of the input up to the end of the chunk: those of whole lines, those that are gone of a line, and the chunk.
 abbrev pub bytesRead : State → List ℕ → ℕ
-bytesRead st chunk = st .bytes + st .held + length chunk
+bytesRead st chunk = st .bytes + st .gone + length chunk
 
 pub record Counted (st : State) (chunk : List ℕ) (r : Step) : Type 0 where
   pub reads : st .ended ≡ false
   pub same : bytesRead (r .state) (drop (r .used) chunk) ≡ bytesRead st chunk
-  pub within : st .bytes + st .held ≤ 33_000_000 → r .state .bytes + r .state .held ≤ 33_000_000
+  pub within : st .bytes + st .gone ≤ 33_000_000 → r .state .bytes + r .state .gone ≤ 33_000_000
 
 module _ (final : Bool) (st : State) (s : Sheet) (chunk : List ℕ) where
   -- A line that is taken, whole or in part.
-  counted-line : (r : Step) → Near final st chunk → r .used ≡ lineSize chunk → r .state .bytes + r .state .held ≡ st .bytes + st .held + lineSize chunk → Counted st chunk r
-  counted-line r n u e = record { reads = n .present .reading .reads; same = rw length-drop (omega arith); within = λ h. omega (arith, near-bytes (st .lines) (st .bytes + st .held + lineSize chunk) (n .near)) }
+  counted-line : (r : Step) → Near final st chunk → r .used ≡ lineSize chunk → r .state .bytes + r .state .gone ≡ st .bytes + st .gone + lineSize chunk → Counted st chunk r
+  counted-line r n u e = record { reads = n .present .reading .reads; same = rw length-drop (omega arith); within = λ h. omega (arith, near-bytes (st .lines) (st .bytes + st .gone + lineSize chunk) (n .near)) }
 
   case-counted : (r : Step) → StepCase final st s chunk r → r .state .ended ≡ false → Counted st chunk r
   case-counted r (done e) on = record { reads = on; same = refl; within = λ h. h }

@@ -54,7 +54,7 @@ feed-used final st s chunk room =
 pub record Waiting (final : Bool) (st : State) (chunk : List ℕ) : Type 0 where
   pub needs : NeedsInput final chunk
   pub reading : Reading st
-  pub near : 0 < length chunk → st .bytes + st .held + length chunk ≤ 33_000_000
+  pub near : 0 < length chunk → st .bytes + st .gone + length chunk ≤ 33_000_000
 
 -- S is written, or only reading helps.
 abbrev pub Complete : Bool → List ℕ → Step → Type 0
@@ -69,7 +69,7 @@ case-complete {st = st} {chunk = chunk} r (waits q f h plain near) m =
     inr (record {
       needs = record { not-final = f; no-newline = plain; short = h };
       reading = q;
-      near = λ some. omega (arith, near-bytes (st .lines) (st .bytes + st .held + lineSize chunk) (near some));
+      near = λ some. omega (arith, near-bytes (st .lines) (st .bytes + st .gone + lineSize chunk) (near some));
     })
 case-complete r (far p e) m = absurd (true≢false m)
 case-complete r (newline n h) m = absurd (true≢false m)

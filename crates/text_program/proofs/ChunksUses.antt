@@ -43,7 +43,7 @@ input = firstPiece ++ secondPiece ++ thirdPiece
 
 -- All is read, and E waits in the buffer for what may follow it.
 abbrev waiting : Place
-waiting = record { state = record { lines = 3; bytes = 42; held = 0; ended = false; written = false; walk = openWalk 1 origin origin zeros }; sheet = newSheet; buffer = 69 ∷ []; unread = [] }
+waiting = record { state = record { lines = 3; bytes = 42; gone = 0; ended = false; written = false; walk = openWalk 1 origin origin zeros }; sheet = newSheet; buffer = 69 ∷ []; unread = [] }
 
 -- A call that is not told that the input has ended.
 not-ended : {unread : List ℕ} → false ≡ true → unread ≡ []
@@ -69,7 +69,7 @@ stopped = chunks-so-far waiting input (text ("R 1 9" ∷ [])) (to-waiting waitin
 
 -- S is written.
 abbrev finished : Place
-finished = record { state = record { lines = 4; bytes = 43; held = 0; ended = true; written = true; walk = waiting .state .walk }; sheet = newSheet; buffer = []; unread = [] }
+finished = record { state = record { lines = 4; bytes = 43; gone = 0; ended = true; written = true; walk = waiting .state .walk }; sheet = newSheet; buffer = []; unread = [] }
 
 -- The input has ended: E is refused, and the next call writes S.
 to-finished : Run finished (waiting .state) newSheet (69 ∷ []) [] (text ("R 4 24" ∷ "S 0 0 0 0 0 0 0 - -" ∷ []))
@@ -82,7 +82,7 @@ in-pieces = chunks finished input (text ("R 1 9" ∷ "R 4 24" ∷ "S 0 0 0 0 0 0
 -- ---- 10
 
 abbrev readingEnded : State
-readingEnded = record { lines = 0; bytes = 0; held = 0; ended = true; written = false; walk = closed }
+readingEnded = record { lines = 0; bytes = 0; gone = 0; ended = true; written = false; walk = closed }
 
 -- A first line that has no end in the first 33,000,001 bytes.
 module _ (long : List ℕ) (far : 33_000_000 < lineLength long) where

@@ -21,7 +21,7 @@ use Rattle.text_program.proofs.Steps.{steps-keep}
 
 -- The lines of the output that may still come when the chunk is gone: S, and before it one for a line whose bytes are gone.
 abbrev pub linesAhead : State → ℕ
-linesAhead st = cond (st .written) 0 (cond (st .ended) 1 (cond (eqb (st .held) 0) 1 2))
+linesAhead st = cond (st .written) 0 (cond (st .ended) 1 (cond (eqb (st .gone) 0) 1 2))
 
 -- What is left to do: the bytes of the chunk, and those lines.
 abbrev pub workLeft : State → List ℕ → ℕ
@@ -37,16 +37,16 @@ pub record NeedsInput (final : Bool) (chunk : List ℕ) : Type 0 where
 
 -- Both at the most.
 pub at-most-two : (st : State) → linesAhead st ≤ 2
-at-most-two st = by-cond (λ n. n ≤ 2) (st .written) (λ e. omega arith) (λ e. by-cond (λ n. n ≤ 2) (st .ended) (λ f. omega arith) (λ f. by-cond (λ n. n ≤ 2) (eqb (st .held) 0) (λ g. omega arith) (λ g. omega arith)))
+at-most-two st = by-cond (λ n. n ≤ 2) (st .written) (λ e. omega arith) (λ e. by-cond (λ n. n ≤ 2) (st .ended) (λ f. omega arith) (λ f. by-cond (λ n. n ≤ 2) (eqb (st .gone) 0) (λ g. omega arith) (λ g. omega arith)))
 
 module _ (st : State) (r : Reading st) (n : ℕ) where
   -- More than the S line is left where there is a line,
-  line-ahead : 0 < st .held + n → 1 < n + linesAhead st
-  line-ahead h = rw (r .on, r .reads) (by-cond (λ k. 1 < n + k) (eqb (st .held) 0) (λ e. omega (arith, eqb-true (st .held) 0 e)) (λ e. omega arith))
+  line-ahead : 0 < st .gone + n → 1 < n + linesAhead st
+  line-ahead h = rw (r .on, r .reads) (by-cond (λ k. 1 < n + k) (eqb (st .gone) 0) (λ e. omega (arith, eqb-true (st .gone) 0 e)) (λ e. omega arith))
 
   -- and more than that where it is long and has bytes in the chunk.
-  long-ahead : 0 < n → 32 < st .held + n → 2 < n + linesAhead st
-  long-ahead h k = rw (r .on, r .reads) (by-cond (λ k. 2 < n + k) (eqb (st .held) 0) (λ e. omega (arith, eqb-true (st .held) 0 e)) (λ e. omega arith))
+  long-ahead : 0 < n → 32 < st .gone + n → 2 < n + linesAhead st
+  long-ahead h k = rw (r .on, r .reads) (by-cond (λ k. 2 < n + k) (eqb (st .gone) 0) (λ e. omega (arith, eqb-true (st .gone) 0 e)) (λ e. omega arith))
 
 -- A step leaves all as it was, writes nothing and goes on no further, or leaves less work.
 pub data StepProgress (final : Bool) (st : State) (chunk : List ℕ) (r : Step) : Type 0 where
@@ -133,9 +133,9 @@ written-steps (suc most) final st s chunk room e = rw (written-step final st s c
 pub nothing-left : (st : State) (chunk : List ℕ) → workLeft st chunk ≤ 0 → st .written ≡ true
 nothing-left st chunk h = go (st .written) (omega arith)
   where
-    go : (b : Bool) → cond b 0 (cond (st .ended) 1 (cond (eqb (st .held) 0) 1 2)) ≤ 0 → b ≡ true
+    go : (b : Bool) → cond b 0 (cond (st .ended) 1 (cond (eqb (st .gone) 0) 1 2)) ≤ 0 → b ≡ true
     go true k = refl
-    go false k = absurd (by-cond (λ n. n ≤ 0 → ⊥) (st .ended) (λ e l. omega arith) (λ e l. by-cond (λ n. n ≤ 0 → ⊥) (eqb (st .held) 0) (λ f m. omega arith) (λ f m. omega arith) l) k)
+    go false k = absurd (by-cond (λ n. n ≤ 0 → ⊥) (st .ended) (λ e l. omega arith) (λ e l. by-cond (λ n. n ≤ 0 → ⊥) (eqb (st .gone) 0) (λ f m. omega arith) (λ f m. omega arith) l) k)
 
 -- Any two numbers of steps that are enough for the work do the same.
 enough-steps : (a b : ℕ) (final : Bool) (st : State) (s : Sheet) (chunk : List ℕ) (room : ℕ) → workLeft st chunk ≤ a → workLeft st chunk ≤ b → steps a final st s chunk room ≡ steps b final st s chunk room

@@ -26,7 +26,7 @@ use Rattle.printing.specs.Output.{refusalLine}
 use Rattle.printing.specs.Buffer.{lineRoom}
 use Rattle.text_program.specs.Program.{Carried, carriedWalk, carriedEnd, carryOut}
 use Rattle.newlines.specs.LineLength.{lineLength}
-use Rattle.text_program.specs.Stream.{Step, heldBytes, whole, step, feedCall}
+use Rattle.text_program.specs.Stream.{Step, goneBytes, whole, step, feedCall}
 use Rattle.integers.proofs.Cases.{by-cond}
 use Rattle.text_program.proofs.Lines.{lineSize}
 use Rattle.text_program.proofs.TooFar.{near-lines}
@@ -133,8 +133,8 @@ pub record OneLine (r : Step) : Type 0 where
 module _ (final : Bool) (st : State) (s : Sheet) (chunk : List ℕ) (f : Fits st s) where
   near-line : Near final st chunk → OneLine (whole st s chunk (lineLength chunk) (lineSize chunk))
   near-line n =
-      let p = line-prints (st .lines + 1) (omega (arith, f .lines)) s (f .sheet) (formOf (heldBytes st ++ take (lineLength chunk) chunk)) (st .walk) in
-      record { short = p .short; fits = record { lines = omega (arith, near-lines (st .lines) (st .bytes + st .held + lineSize chunk) (n .near)); sheet = p .sheet } }
+      let p = line-prints (st .lines + 1) (omega (arith, f .lines)) s (f .sheet) (formOf (goneBytes st ++ take (lineLength chunk) chunk)) (st .walk) in
+      record { short = p .short; fits = record { lines = omega (arith, near-lines (st .lines) (st .bytes + st .gone + lineSize chunk) (n .near)); sheet = p .sheet } }
 
   case-line : (r : Step) → StepCase final st s chunk r → OneLine r
   case-line r (done e) = record { short = omega arith; fits = f }

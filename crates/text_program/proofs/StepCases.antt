@@ -24,17 +24,17 @@ pub record Reading (st : State) : Type 0 where
 -- There is a line: bytes of it are in the chunk, or bytes of it are gone and the input has ended.
 pub record Present (final : Bool) (st : State) (chunk : List ℕ) : Type 0 where
   pub reading : Reading st
-  pub some : 0 < st .held + length chunk
+  pub some : 0 < st .gone + length chunk
   pub bytes : final ≡ false → 0 < length chunk
 
 -- It is not too far, as far as it has come.
 pub record Near (final : Bool) (st : State) (chunk : List ℕ) : Type 0 where
   pub present : Present final st chunk
-  pub near : beyond (st .lines) (st .bytes + st .held + lineSize chunk) ≡ false
+  pub near : beyond (st .lines) (st .bytes + st .gone + lineSize chunk) ≡ false
 
 -- A line without an end: the size of the bytes that are gone is all that is kept of it.
 abbrev pub holding : State → Sheet → ℕ → Step
-holding st s size = record { output = []; used = size; state = record { lines = st .lines; bytes = st .bytes; held = st .held + size; ended = false; written = false; walk = st .walk }; sheet = s; more = false }
+holding st s size = record { output = []; used = size; state = record { lines = st .lines; bytes = st .bytes; gone = st .gone + size; ended = false; written = false; walk = st .walk }; sheet = s; more = false }
 
 -- One case for each way, with the step that it is.
 pub data StepCase (final : Bool) (st : State) (s : Sheet) (chunk : List ℕ) : Step → Type 0 where
@@ -43,29 +43,29 @@ pub data StepCase (final : Bool) (st : State) (s : Sheet) (chunk : List ℕ) : S
   -- Reading has ended: the S line.
   ended : st .written ≡ false → st .ended ≡ true → StepCase final st s chunk (closing st s)
   -- The input has ended and nothing is left: the S line.
-  last : Reading st → final ≡ true → st .held ≡ 0 → length chunk ≡ 0 → StepCase final st s chunk (closing st s)
+  last : Reading st → final ≡ true → st .gone ≡ 0 → length chunk ≡ 0 → StepCase final st s chunk (closing st s)
   -- The line may still have a form: more of it must be read.
-  waits : Reading st → final ≡ false → length chunk ≤ 32 → length chunk ≤ lineLength chunk → (0 < length chunk → beyond (st .lines) (st .bytes + st .held + lineSize chunk) ≡ false) → StepCase final st s chunk (halted st s)
+  waits : Reading st → final ≡ false → length chunk ≤ 32 → length chunk ≤ lineLength chunk → (0 < length chunk → beyond (st .lines) (st .bytes + st .gone + lineSize chunk) ≡ false) → StepCase final st s chunk (halted st s)
   -- 10.
-  far : Present final st chunk → beyond (st .lines) (st .bytes + st .held + lineSize chunk) ≡ true → StepCase final st s chunk (ending st s chunk)
+  far : Present final st chunk → beyond (st .lines) (st .bytes + st .gone + lineSize chunk) ≡ true → StepCase final st s chunk (ending st s chunk)
   -- A line with its newline, or the last line without one.
   newline : Near final st chunk → lineLength chunk < length chunk → StepCase final st s chunk (whole st s chunk (lineLength chunk) (lineSize chunk))
   unended : Near final st chunk → final ≡ true → length chunk ≤ lineLength chunk → StepCase final st s chunk (whole st s chunk (lineLength chunk) (lineSize chunk))
   -- Part of a line that is too long for any form.
-  holds : Near final st chunk → final ≡ false → length chunk ≤ lineLength chunk → 32 < st .held + lineSize chunk → StepCase final st s chunk (holding st s (lineSize chunk))
+  holds : Near final st chunk → final ≡ false → length chunk ≤ lineLength chunk → 32 < st .gone + lineSize chunk → StepCase final st s chunk (holding st s (lineSize chunk))
 
 module _ (final : Bool) (st : State) (s : Sheet) (chunk : List ℕ) where
   part-case : Near final st chunk → final ≡ false → length chunk ≤ lineLength chunk → StepCase final st s chunk (part st s (lineSize chunk))
   part-case n f plain =
-      by-cond (StepCase final st s chunk) (leb (st .held + lineSize chunk) 32)
-      (λ e. waits (n .present .reading) f (omega (arith, leb-true (st .held + lineSize chunk) 32 e)) plain (λ h. n .near))
-      (λ e. holds n f plain (leb-false (st .held + lineSize chunk) 32 e))
+      by-cond (StepCase final st s chunk) (leb (st .gone + lineSize chunk) 32)
+      (λ e. waits (n .present .reading) f (omega (arith, leb-true (st .gone + lineSize chunk) 32 e)) plain (λ h. n .near))
+      (λ e. holds n f plain (leb-false (st .gone + lineSize chunk) 32 e))
 
   line-case : Present final st chunk → StepCase final st s chunk (lineStep final st s chunk)
   unfolding lineStep
   line-case p =
       let k = lineLength chunk in
-      by-cond (StepCase final st s chunk) (beyond (st .lines) (st .bytes + st .held + lineSize chunk)) (far p)
+      by-cond (StepCase final st s chunk) (beyond (st .lines) (st .bytes + st .gone + lineSize chunk)) (far p)
       (λ e.
       let n : Near final st chunk = record { present = p; near = e } in
       by-or (StepCase final st s chunk) (ltb k (length chunk)) final
@@ -80,8 +80,8 @@ module _ (final : Bool) (st : State) (s : Sheet) (chunk : List ℕ) where
       by-cond (StepCase final st s chunk) (st .written) done (λ on.
       by-cond (StepCase final st s chunk) (st .ended) (ended on) (λ e.
       let r : Reading st = record { on = on; reads = e } in
-      by-and (StepCase final st s chunk) final (eqb (length chunk) 0 && eqb (st .held) 0)
-      (λ f t. last r f (eqb-true (st .held) 0 (and-right (eqb (length chunk) 0) (eqb (st .held) 0) t)) (eqb-true (length chunk) 0 (and-left (eqb (length chunk) 0) (eqb (st .held) 0) t)))
+      by-and (StepCase final st s chunk) final (eqb (length chunk) 0 && eqb (st .gone) 0)
+      (λ f t. last r f (eqb-true (st .gone) 0 (and-right (eqb (length chunk) 0) (eqb (st .gone) 0) t)) (eqb-true (length chunk) 0 (and-left (eqb (length chunk) 0) (eqb (st .gone) 0) t)))
       (λ f.
       by-and (StepCase final st s chunk) (not final) (eqb (length chunk) 0)
       (λ g t. let empty : length chunk ≡ 0 = eqb-true (length chunk) 0 t in waits r f (omega arith) (omega arith) (λ h. absurd (omega arith)))
@@ -93,6 +93,6 @@ module _ (final : Bool) (st : State) (s : Sheet) (chunk : List ℕ) where
       (λ g. line-case (record { reading = r; some = some-left (eqb (length chunk) 0) refl t; bytes = λ e. absurd (true≢false (sym f ∙ e)) }))
       (λ g. absurd (true≢false (sym (rw f at g)))))))
     where
-      some-left : (z : Bool) → eqb (length chunk) 0 ≡ z → (z && eqb (st .held) 0) ≡ false → 0 < st .held + length chunk
-      some-left true e t = omega (arith, eqb-false (st .held) 0 t)
+      some-left : (z : Bool) → eqb (length chunk) 0 ≡ z → (z && eqb (st .gone) 0) ≡ false → 0 < st .gone + length chunk
+      some-left true e t = omega (arith, eqb-false (st .gone) 0 t)
       some-left false e t = omega (arith, eqb-false (length chunk) 0 e)

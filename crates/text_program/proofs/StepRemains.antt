@@ -11,7 +11,7 @@ use Rattle.text_program.specs.declared.State.{State}
 use Rattle.printing.specs.Output.{sheetLine}
 use Rattle.text_program.specs.Program.{linesFrom, outputOf}
 use Rattle.newlines.specs.LineLength.{lineLength}
-use Rattle.text_program.specs.Stream.{Step, closing, ending, whole, heldBytes, step, remaining}
+use Rattle.text_program.specs.Stream.{Step, closing, ending, whole, goneBytes, step, remaining}
 use Rattle.text_program.proofs.Lines.{lineSize, FirstLine, lines-part, lines-whole, lines-last}
 use Rattle.text_program.proofs.TooFar.{beyond, near-output, far-remains}
 use Rattle.text_program.proofs.LongLine.{long-held}
@@ -30,40 +30,40 @@ module _ (st : State) (s : Sheet) where
   unfolding remaining
   ended-remains chunk rest on e = rw (on, e) (sym (append-nil (sheetLine s)))
 
-  reads : (rest : List ℕ) → Reading st → remaining st s rest ≡ outputOf (st .walk) s (linesFrom (st .lines) (st .bytes) (heldBytes st) rest)
+  reads : (rest : List ℕ) → Reading st → remaining st s rest ≡ outputOf (st .walk) s (linesFrom (st .lines) (st .bytes) (goneBytes st) rest)
   unfolding remaining
   reads rest r = rw (r .on, r .reads)
 
-  last-remains : (chunk rest : List ℕ) → Reading st → st .held ≡ 0 → length chunk ≡ 0 → rest ≡ [] → Remains st s chunk rest (closing st s)
+  last-remains : (chunk rest : List ℕ) → Reading st → st .gone ≡ 0 → length chunk ≡ 0 → rest ≡ [] → Remains st s chunk rest (closing st s)
   unfolding remaining linesFrom outputOf
   last-remains [] rest r h e end = rw (r .on, r .reads, h, end) (sym (append-nil (sheetLine s)))
   last-remains (b ∷ chunk) rest r h e end = absurd (omega arith)
 
-  held-length : length (heldBytes st) ≡ st .held
-  held-length = length-replicate (st .held) 0
+  held-length : length (goneBytes st) ≡ st .gone
+  held-length = length-replicate (st .gone) 0
 
-  far-step : {final : Bool} (chunk rest : List ℕ) → Present final st chunk → beyond (st .lines) (st .bytes + st .held + lineSize chunk) ≡ true → Remains st s chunk rest (ending st s chunk)
+  far-step : {final : Bool} (chunk rest : List ℕ) → Present final st chunk → beyond (st .lines) (st .bytes + st .gone + lineSize chunk) ≡ true → Remains st s chunk rest (ending st s chunk)
   unfolding remaining
-  far-step chunk rest p e = reads (chunk ++ rest) (p .reading) ∙ far-remains (st .walk) s (st .lines) (st .bytes) (heldBytes st) chunk rest (rw held-length (p .some)) (rw held-length e)
+  far-step chunk rest p e = reads (chunk ++ rest) (p .reading) ∙ far-remains (st .walk) s (st .lines) (st .bytes) (goneBytes st) chunk rest (rw held-length (p .some)) (rw held-length e)
 
-  whole-remains : {final : Bool} (chunk rest : List ℕ) → Near final st chunk → FirstLine (st .lines) (st .bytes) (heldBytes st) chunk rest → Remains st s chunk rest (whole st s chunk (lineLength chunk) (lineSize chunk))
+  whole-remains : {final : Bool} (chunk rest : List ℕ) → Near final st chunk → FirstLine (st .lines) (st .bytes) (goneBytes st) chunk rest → Remains st s chunk rest (whole st s chunk (lineLength chunk) (lineSize chunk))
   unfolding remaining
   whole-remains chunk rest n first =
       reads (chunk ++ rest) (n .present .reading)
       ∙ ap (outputOf (st .walk) s) (rw held-length at first)
-      ∙ near-output (st .walk) s (st .lines) (st .bytes + st .held + lineSize chunk) (heldBytes st ++ take (lineLength chunk) chunk) (linesFrom (st .lines + 1) (st .bytes + st .held + lineSize chunk) [] (drop (lineSize chunk) chunk ++ rest)) (n .near)
+      ∙ near-output (st .walk) s (st .lines) (st .bytes + st .gone + lineSize chunk) (goneBytes st ++ take (lineLength chunk) chunk) (linesFrom (st .lines + 1) (st .bytes + st .gone + lineSize chunk) [] (drop (lineSize chunk) chunk ++ rest)) (n .near)
 
   unended-remains : {final : Bool} (chunk : List ℕ) → Near final st chunk → length chunk ≤ lineLength chunk → Remains st s chunk [] (whole st s chunk (lineLength chunk) (lineSize chunk))
-  unended-remains chunk n plain = whole-remains chunk [] n (lines-last (st .lines) (st .bytes) (heldBytes st) chunk plain (rw held-length (n .present .some)))
+  unended-remains chunk n plain = whole-remains chunk [] n (lines-last (st .lines) (st .bytes) (goneBytes st) chunk plain (rw held-length (n .present .some)))
 
-  held-remains : (chunk rest : List ℕ) → Reading st → length chunk ≤ lineLength chunk → 32 < st .held + lineSize chunk → Remains st s chunk rest (holding st s (lineSize chunk))
+  held-remains : (chunk rest : List ℕ) → Reading st → length chunk ≤ lineLength chunk → 32 < st .gone + lineSize chunk → Remains st s chunk rest (holding st s (lineSize chunk))
   unfolding remaining
   held-remains chunk rest r plain h =
       let all : lineSize chunk ≡ length chunk = omega arith in
-      let size : length (heldBytes st ++ chunk) ≡ st .held + length chunk = length-append (heldBytes st) chunk ∙ ap (λ n. n + length chunk) held-length in
+      let size : length (goneBytes st ++ chunk) ≡ st .gone + length chunk = length-append (goneBytes st) chunk ∙ ap (λ n. n + length chunk) held-length in
       reads (chunk ++ rest) r
-      ∙ ap (outputOf (st .walk) s) (lines-part (st .lines) (st .bytes) (heldBytes st) chunk rest plain)
-      ∙ long-held (st .walk) s (st .lines) (st .bytes) (heldBytes st ++ chunk) (replicate (st .held + length chunk) 0) rest (size ∙ sym (length-replicate (st .held + length chunk) 0)) (omega arith)
+      ∙ ap (outputOf (st .walk) s) (lines-part (st .lines) (st .bytes) (goneBytes st) chunk rest plain)
+      ∙ long-held (st .walk) s (st .lines) (st .bytes) (goneBytes st ++ chunk) (replicate (st .gone + length chunk) 0) rest (size ∙ sym (length-replicate (st .gone + length chunk) 0)) (omega arith)
       ∙ rw (all, drop-length)
 
 -- ---- every step
@@ -74,7 +74,7 @@ case-remains final st s chunk rest end r (ended on e) = ended-remains st s chunk
 case-remains final st s chunk rest end r (last q f h e) = last-remains st s chunk rest q h e (end f)
 case-remains final st s chunk rest end r (waits q f h plain near) = refl
 case-remains final st s chunk rest end r (far p e) = far-step st s chunk rest p e
-case-remains final st s chunk rest end r (newline n h) = whole-remains st s chunk rest n (lines-whole (st .lines) (st .bytes) (heldBytes st) chunk rest h)
+case-remains final st s chunk rest end r (newline n h) = whole-remains st s chunk rest n (lines-whole (st .lines) (st .bytes) (goneBytes st) chunk rest h)
 case-remains final st s chunk rest end r (unended n f plain) = subst (λ l. Remains st s chunk l r) (sym (end f)) (unended-remains st s chunk n plain)
 case-remains final st s chunk rest end r (holds n f plain h) = held-remains st s chunk rest (n .present .reading) plain h
 

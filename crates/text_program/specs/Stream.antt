@@ -25,14 +25,14 @@ pub record Step : Type 0 where
 
 -- The state before the first byte.
 abbrev pub start : State
-start = record { lines = 0; bytes = 0; held = 0; ended = false; written = false; walk = closed }
+start = record { lines = 0; bytes = 0; gone = 0; ended = false; written = false; walk = closed }
 
 abbrev pub halted : State → Sheet → Step
 halted st s = record { output = []; used = 0; state = st; sheet = s; more = false }
 
 -- The last line of the output.
 abbrev pub closing : State → Sheet → Step
-closing st s = record { output = sheetLine s; used = 0; state = record { lines = st .lines; bytes = st .bytes; held = st .held; ended = true; written = true; walk = st .walk }; sheet = s; more = false }
+closing st s = record { output = sheetLine s; used = 0; state = record { lines = st .lines; bytes = st .bytes; gone = st .gone; ended = true; written = true; walk = st .walk }; sheet = s; more = false }
 
 -- 10: the line that is reached is refused, and the rest of the chunk is passed over.
 abbrev pub ending : State → Sheet → List ℕ → Step
@@ -40,38 +40,38 @@ ending st s chunk =
     record {
       output = refusalLine (st .lines + 1) 10;
       used = length chunk;
-      state = record { lines = st .lines; bytes = st .bytes; held = st .held; ended = true; written = false; walk = st .walk };
+      state = record { lines = st .lines; bytes = st .bytes; gone = st .gone; ended = true; written = false; walk = st .walk };
       sheet = s;
       more = true;
     }
 
 -- Zeros stand for the bytes of a line that are gone: no form has one.
-abbrev pub heldBytes : State → List ℕ
-heldBytes st = replicate (st .held) 0
+abbrev pub goneBytes : State → List ℕ
+goneBytes st = replicate (st .gone) 0
 
 -- A line of `size` bytes that is carried out, and counted.
 abbrev pub afterLine : State → Walk → ℕ → State
-afterLine st w size = record { lines = st .lines + 1; bytes = st .bytes + st .held + size; held = 0; ended = false; written = false; walk = w }
+afterLine st w size = record { lines = st .lines + 1; bytes = st .bytes + st .gone + size; gone = 0; ended = false; written = false; walk = w }
 
 abbrev pub carriedStep : State → Carried → ℕ → Step
 carriedStep st c size = record { output = c .output; used = size; state = afterLine st (c .walk) size; sheet = c .sheet; more = true }
 
 -- A whole line, of `n` bytes in the chunk without its newline and `size` with it.
 abbrev pub whole : State → Sheet → List ℕ → ℕ → ℕ → Step
-whole st s chunk n size = carriedStep st (carryOut (st .lines + 1) (formOf (heldBytes st ++ take n chunk)) (st .walk) s) size
+whole st s chunk n size = carriedStep st (carryOut (st .lines + 1) (formOf (goneBytes st ++ take n chunk)) (st .walk) s) size
 
 -- Part of a line: it stays in the chunk while it may still have a form; else it is taken, and only its size is kept.
 abbrev pub part : State → Sheet → ℕ → Step
 part st s size =
-    cond (leb (st .held + size) 32) (halted st s)
-    (record { output = []; used = size; state = record { lines = st .lines; bytes = st .bytes; held = st .held + size; ended = false; written = false; walk = st .walk }; sheet = s; more = false })
+    cond (leb (st .gone + size) 32) (halted st s)
+    (record { output = []; used = size; state = record { lines = st .lines; bytes = st .bytes; gone = st .gone + size; ended = false; written = false; walk = st .walk }; sheet = s; more = false })
 
 -- The line at the front of the chunk. `final` says that no byte comes after the chunk.
 unfoldable pub lineStep : Bool → State → Sheet → List ℕ → Step
 lineStep final st s chunk =
     let n = lineLength chunk in
     let size = min (suc n) (length chunk) in
-    cond (leb 1_000_000 (st .lines) || ltb 33_000_000 (st .bytes + st .held + size)) (ending st s chunk)
+    cond (leb 1_000_000 (st .lines) || ltb 33_000_000 (st .bytes + st .gone + size)) (ending st s chunk)
     (cond (ltb n (length chunk) || final) (whole st s chunk n size)
     (part st s size))
 
@@ -81,7 +81,7 @@ unfoldable pub step : Bool → State → Sheet → List ℕ → Step
 step final st s chunk =
     cond (st .written) (halted st s)
     (cond (st .ended) (closing st s)
-    (cond (final && (eqb (length chunk) 0 && eqb (st .held) 0)) (closing st s)
+    (cond (final && (eqb (length chunk) 0 && eqb (st .gone) 0)) (closing st s)
     (cond (not final && eqb (length chunk) 0) (halted st s)
     (lineStep final st s chunk))))
 
@@ -106,4 +106,4 @@ unfoldable pub remaining : State → Sheet → List ℕ → List ℕ
 remaining st s rest =
     cond (st .written) []
     (cond (st .ended) (sheetLine s)
-    (outputOf (st .walk) s (linesFrom (st .lines) (st .bytes) (heldBytes st) rest)))
+    (outputOf (st .walk) s (linesFrom (st .lines) (st .bytes) (goneBytes st) rest)))

@@ -3,7 +3,7 @@
 pub struct State {
     pub lines: u32,
     pub bytes: u32,
-    pub held: u32,
+    pub gone: u32,
     pub ended: bool,
     pub written: bool,
     pub walk: outline::Walk,

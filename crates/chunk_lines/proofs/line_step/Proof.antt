@@ -40,7 +40,7 @@ found c =
     }
 
 -- Neither limit is reached.
-near : (c : tie.Else1) → (let st = start-of (sized-of c) .args .state in (leb 1_000_000 (st .lines) || ltb 33_000_000 (st .bytes + st .held + sized-of c .lesser2 .result)) ≡ false)
+near : (c : tie.Else1) → (let st = start-of (sized-of c) .args .state in (leb 1_000_000 (st .lines) || ltb 33_000_000 (st .bytes + st .gone + sized-of c .lesser2 .result)) ≡ false)
 near c = tells (c .before .past-limit .ensures) (c .if1 .left)
 
 -- So the counters have room.

@@ -10,7 +10,7 @@ use Rattle.chunk_lines.specs.declared.Stepped.{Stepped}
 -- What the code counts of a line stays within 10's limits, and so within its counters.
 pub record Counts (st : State) (size : ℕ) : Type 0 where
   pub lines : st .lines < 1_000_000
-  pub bytes : st .bytes + st .held + size ≤ 33_000_000
+  pub bytes : st .bytes + st .gone + size ≤ 33_000_000
 
 -- The answer of a step that writes nothing.
 abbrev pub silent : Step → ℕ → Stepped

@@ -16,15 +16,15 @@ returns-2 : tie.Need-returns-2
 returns-2 c =
     let few = c .before .before .before in
     let a = few .before .before .args in
-    rw (lt-leb 1_000_000 _ (few .if1 .left), lt-ltb 33_000_000 (a .state .bytes + a .state .held + a .size) (omega arith))
+    rw (lt-leb 1_000_000 _ (few .if1 .left), lt-ltb 33_000_000 (a .state .bytes + a .state .gone + a .size) (omega arith))
 
 returns-3 : tie.Need-returns-3
 returns-3 c =
     let few = c .before .before .before in
     let a = few .before .before .args in
     let st = a .state in
-    let swapped : a .size + (st .bytes + st .held) ≡ st .bytes + st .held + a .size = omega arith in
-    rw (lt-leb 1_000_000 _ (few .if1 .left)) (difference-test 33_000_000 (st .bytes + st .held) (a .size) (omega arith) ∙ ap (ltb 33_000_000) swapped)
+    let swapped : a .size + (st .bytes + st .gone) ≡ st .bytes + st .gone + a .size = omega arith in
+    rw (lt-leb 1_000_000 _ (few .if1 .left)) (difference-test 33_000_000 (st .bytes + st .gone) (a .size) (omega arith) ∙ ap (ltb 33_000_000) swapped)
 
 pub past-limit-spec : {M : Type 1} → statement M
 past-limit-spec =

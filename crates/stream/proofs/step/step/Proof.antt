@@ -34,8 +34,8 @@ has-room : (c : tie.Else2) → ltb (room (start-of c)) lineRoom ≡ false
 has-room c = le-ltb (room (start-of c)) lineRoom (c .if2 .left)
 
 -- The S line is due as the code finds it.
-due : (c : tie.After-at-end) → (let s = start-of (c .before) in c .at-end .result ≡ (s .args .state .ended || (s .args .last && (eqb (length (rest s)) 0 && eqb (s .args .state .held) 0))))
-due c = let a = start-of (c .before) .args in c .at-end .ensures ∙ ap (λ n. a .state .ended || (a .last && (eqb n 0 && eqb (a .state .held) 0))) (sym (length-drop (a .at) (a .chunk .now)))
+due : (c : tie.After-at-end) → (let s = start-of (c .before) in c .at-end .result ≡ (s .args .state .ended || (s .args .last && (eqb (length (rest s)) 0 && eqb (s .args .state .gone) 0))))
+due c = let a = start-of (c .before) .args in c .at-end .ensures ∙ ap (λ n. a .state .ended || (a .last && (eqb n 0 && eqb (a .state .gone) 0))) (sym (length-drop (a .at) (a .chunk .now)))
 
 -- Nothing is left, as the code finds it.
 nothing : (c : tie.After-waits) → (let s = start-of (open-of (c .before)) in c .waits .result ≡ (not (s .args .last) && eqb (length (rest s)) 0))
