@@ -8,7 +8,7 @@ use Rattle.outline.specs.declared.Sheet.{Sheet}
 use Rattle.printing.specs.Buffer.{fitting}
 use Rattle.decimals.specs.Buffer.{Written}
 use Rattle.integers.proofs.Cases.{by-cond}
-use Rattle.lines.proofs.NothingWritten.{nothing-written}
+use Rattle.printing.proofs.NothingWritten.{nothing-written}
 use Rattle.text_program.specs.declared.State.{State}
 use Rattle.text_program.specs.Stream.{Step, part}
 use Rattle.chunk_lines.specs.declared.Stepped.{Stepped}

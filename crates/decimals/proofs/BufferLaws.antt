@@ -12,41 +12,44 @@ use lib.Seq.{length-take-le, append-snoc, set-split, take-at, drop-at, drop-drop
 use Rattle.decimals.specs.Buffer.{overwritten, ifRoom, Written}
 
 -- Nothing written leaves the buffer as it was.
-pub put-nothing : (o : List ℕ) (at : ℕ) → overwritten o at [] ≡ o
+overwritten-nothing : (o : List ℕ) (at : ℕ) → overwritten o at [] ≡ o
 unfolding overwritten
-put-nothing o at = let same : at + 0 ≡ at = omega arith in ap₂ (λ f n. f ++ drop n o) (append-nil (take at o)) same ∙ take-append-drop at o
+overwritten-nothing o at = let same : at + 0 ≡ at = omega arith in ap₂ (λ f n. f ++ drop n o) (append-nil (take at o)) same ∙ take-append-drop at o
 
-put-length : (o : List ℕ) (at : ℕ) (x : List ℕ) → at + length x ≤ length o → length (overwritten o at x) ≡ length o
+pub none-written : (o : List ℕ) (at : ℕ) → Written o at [] o at
+none-written o at = record { buffer = sym (overwritten-nothing o at); end = omega arith }
+
+overwritten-length : (o : List ℕ) (at : ℕ) (x : List ℕ) → at + length x ≤ length o → length (overwritten o at x) ≡ length o
 unfolding overwritten
-put-length o at x h = simp (length-append, length-drop) (omega (arith, length-take-le at o (omega arith)))
+overwritten-length o at x h = simp (length-append, length-drop) (omega (arith, length-take-le at o (omega arith)))
 
 -- The buffer after a text, up to the end of the text and from a later place on.
 module _ (o : List ℕ) (at : ℕ) (x : List ℕ) (h : at ≤ length o) where
   head-length : length (take at o ++ x) ≡ at + length x
   head-length = length-append (take at o) x ∙ ap (λ n. n + length x) (length-take-le at o h)
 
-  take-put : take (at + length x) (overwritten o at x) ≡ take at o ++ x
+  take-overwritten : take (at + length x) (overwritten o at x) ≡ take at o ++ x
   unfolding overwritten
-  take-put = take-at (take at o ++ x) (drop (at + length x) o) (at + length x) head-length
+  take-overwritten = take-at (take at o ++ x) (drop (at + length x) o) (at + length x) head-length
 
-  drop-put : (n : ℕ) → drop (at + length x + n) (overwritten o at x) ≡ drop (at + length x + n) o
+  drop-overwritten : (n : ℕ) → drop (at + length x + n) (overwritten o at x) ≡ drop (at + length x + n) o
   unfolding overwritten
-  drop-put n =
+  drop-overwritten n =
       sym (drop-drop n (at + length x) (overwritten o at x))
       ∙ ap (λ l. drop n l) (drop-at (take at o ++ x) (drop (at + length x) o) (at + length x) head-length)
       ∙ drop-drop n (at + length x) o
 
   -- One text after the other is one text.
-  put-put : (y : List ℕ) → overwritten (overwritten o at x) (at + length x) y ≡ overwritten o at (x ++ y)
+  overwritten-twice : (y : List ℕ) → overwritten (overwritten o at x) (at + length x) y ≡ overwritten o at (x ++ y)
   unfolding overwritten
-  put-put y =
+  overwritten-twice y =
       let size : at + length x + length y ≡ at + length (x ++ y) = omega (arith, length-append x y) in
-      ap₂ (λ f b. f ++ y ++ b) take-put (drop-put (length y)) ∙ ap₂ (λ f n. f ++ drop n o) (append-assoc (take at o) x y) size
+      ap₂ (λ f b. f ++ y ++ b) take-overwritten (drop-overwritten (length y)) ∙ ap₂ (λ f n. f ++ drop n o) (append-assoc (take at o) x y) size
 
 pub then : {o p q x y : List ℕ} {at a b : ℕ} → at ≤ length o → Written o at x p a → Written p a y q b → Written o at (x ++ y) q b
 then {o} {p} {q} {x} {y} {at} {a} {b} h v w =
     record {
-      buffer = w .buffer ∙ ap₂ (λ l n. overwritten l n y) (v .buffer) (v .end) ∙ put-put o at x h y;
+      buffer = w .buffer ∙ ap₂ (λ l n. overwritten l n y) (v .buffer) (v .end) ∙ overwritten-twice o at x h y;
       end = omega (arith, length-append x y);
     }
 
@@ -62,7 +65,7 @@ module _ (room : ℕ) (o : List ℕ) (at : ℕ) {lacking : Bool} (e : lacking �
   has-room f = ltb-false (length o) (at + room) (sym e ∙ f)
 
   pub not-written : (text : List ℕ) → lacking ≡ true → Written o at (ifRoom room o at text) o at
-  not-written text t = rw (sym e ∙ t) (record { buffer = sym (put-nothing o at); end = omega arith })
+  not-written text t = rw (sym e ∙ t) (none-written o at)
 
   pub text-written : {p : List ℕ} {r : ℕ} (text : List ℕ) → lacking ≡ false → Written o at text p r → Written o at (ifRoom room o at text) p r
   text-written text f w = rw (sym e ∙ f) w
@@ -77,7 +80,7 @@ pub record SoFar (before : List ℕ) (at : ℕ) (text after : List ℕ) (answer 
 
 -- None is written yet.
 pub none-yet : (o : List ℕ) (at room : ℕ) → at + room ≤ length o → SoFar o at [] o at room
-none-yet o at room h = record { written = record { buffer = sym (put-nothing o at); end = omega arith }; size = refl; left = h }
+none-yet o at room h = record { written = none-written o at; size = refl; left = h }
 
 pub room-left : {o p x : List ℕ} {at a room : ℕ} → SoFar o at x p a room → a + room ≤ length p
 room-left s = omega (arith, s .left, s .size)
@@ -92,7 +95,7 @@ module _ (most room : ℕ) {o p x : List ℕ} {at a : ℕ} (s : SoFar o at x p a
   and-text {y} {q} {b} h w =
       record {
         written = and-last s w;
-        size = ap length (w .buffer) ∙ put-length p a y (omega (arith, s .left, s .size)) ∙ s .size;
+        size = ap length (w .buffer) ∙ overwritten-length p a y (omega (arith, s .left, s .size)) ∙ s .size;
         left = omega (arith, s .left, w .end);
       }
 

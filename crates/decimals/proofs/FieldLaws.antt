@@ -11,8 +11,8 @@ use mir.Val.{SFits, Fits, toZ, ofZ}
 use mir.ValLaws.{toZ-ofZ}
 use Rattle.integers.proofs.Cases.{by-cond}
 use Rattle.integers.proofs.SignedCode.{sfits-natAbs}
-use Rattle.decimals.specs.Decimal.{digits, decimal, signed, field, fieldRoom}
-use Rattle.decimals.specs.Buffer.{ifRoom, Written}
+use Rattle.decimals.specs.Decimal.{digits, decimal, signed, field}
+use Rattle.decimals.specs.Buffer.{fieldRoom, ifRoom, Written}
 use Rattle.decimals.proofs.BufferLaws.{SoFar, and-if-room}
 
 -- A number below 10^(k + 1) has k + 1 digits at most.

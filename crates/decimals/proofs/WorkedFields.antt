@@ -5,9 +5,9 @@ use Prim.Native.Nat.{ℕ}
 use native.Mathlib.Omega.{arith}
 use lib.IntN.{pos, negsuc}
 use lib.ListN.{length, replicate}
-use Rattle.decimals.specs.Decimal.{digits, decimal, signed, field, fieldRoom}
+use Rattle.decimals.specs.Decimal.{digits, decimal, signed, field}
 use Rattle.decimals.specs.private.Digits.{lastDigits}
-use Rattle.decimals.specs.Buffer.{ifRoom}
+use Rattle.decimals.specs.Buffer.{fieldRoom, ifRoom}
 use Rattle.decimals.proofs.DigitLaws.{decimal-pieces}
 
 -- 0; 10; -1.

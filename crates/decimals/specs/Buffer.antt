@@ -14,6 +14,10 @@ overwritten buffer at text = take at buffer ++ text ++ drop (at + length text) b
 abbrev pub ifRoom : ℕ → List ℕ → ℕ → List ℕ → List ℕ
 ifRoom room buffer at text = cond (ltb (length buffer) (at + room)) [] text
 
+-- Room for a tab and a number of 64 bits: 20 digits, or a minus and 19.
+abbrev pub fieldRoom : ℕ
+fieldRoom = 21
+
 -- The text is written from `at` on: the buffer afterwards, and the answer, the place past the text.
 pub record Written (before : List ℕ) (at : ℕ) (text after : List ℕ) (answer : ℕ) : Type 0 where
   pub buffer : after ≡ overwritten before at text

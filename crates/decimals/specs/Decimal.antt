@@ -22,7 +22,3 @@ signed (negsuc n) = 45 ∷ decimal (suc n)
 -- A tab and a number.
 abbrev pub field : ℤ → List ℕ
 field z = 9 ∷ signed z
-
--- Room for a tab and a number of 64 bits: 20 digits, or a minus and 19.
-abbrev pub fieldRoom : ℕ
-fieldRoom = 21

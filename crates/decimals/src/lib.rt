@@ -1,4 +1,4 @@
-// Numbers as decimal digits, written into a buffer that the caller lends. Each answers the place past what it wrote.
+// Numbers as decimal digits, written into a buffer that the caller lends; whether the buffer has room; the absolute value of a number.
 mod digits;
 
 ghost use mathlib.Core.Path.{_≡_};
@@ -6,8 +6,8 @@ ghost use Prim.Native.Nat.{_+_, _≤_};
 ghost use lib.Dec.{ltb};
 ghost use lib.IntN.{pos, natAbs};
 ghost use lib.ListN.{length};
-ghost use Rattle.decimals.specs.Decimal.{signed, field, fieldRoom};
-ghost use Rattle.decimals.specs.Buffer.{ifRoom, Written};
+ghost use Rattle.decimals.specs.Decimal.{signed, field};
+ghost use Rattle.decimals.specs.Buffer.{fieldRoom, ifRoom, Written};
 use digits::up_to_twenty;
 
 const TAB: u8 = 9;
@@ -36,7 +36,7 @@ pub fn magnitude(n: i64) -> u64
     n as u64
 }
 
-// The digits of n, after a minus where n is negative.
+// The digits of n, after a minus where n is negative. Answers the place past them.
 fn put_number(out: &mut [u8], at: usize, n: i64) -> usize
     requires { ⌜ at + length (signed n) ≤ length (now out) ⌝ }
     ensures { λ r. ⌜ Written (now (out .entry)) at (signed n) (now (out .exit)) r ⌝ }
@@ -49,7 +49,7 @@ fn put_number(out: &mut [u8], at: usize, n: i64) -> usize
     up_to_twenty(out, at, m)
 }
 
-// A tab and a number.
+// A tab and a number. With less than 21 bytes of room nothing is written. Answers the place past what is written.
 pub fn put_field(out: &mut [u8], at: usize, n: i64) -> usize
     ensures { λ r. ⌜ Written (now (out .entry)) at (ifRoom fieldRoom (now (out .entry)) at (field n)) (now (out .exit)) r ⌝ }
 {
@@ -60,7 +60,7 @@ pub fn put_field(out: &mut [u8], at: usize, n: i64) -> usize
     put_number(out, at + 1, n)
 }
 
-// A tab and a number without a sign.
+// The same for a number without a sign.
 pub fn put_natural(out: &mut [u8], at: usize, n: u64) -> usize
     ensures { λ r. ⌜ Written (now (out .entry)) at (ifRoom fieldRoom (now (out .entry)) at (field (pos n))) (now (out .exit)) r ⌝ }
 {

@@ -25,7 +25,7 @@ pub struct LineReply {
     pub filled: usize,
 }
 
-// A line that is no end prints nothing where it is accepted, else the refusal.
+// What a line that is no end prints: nothing where it is accepted, else R with the line's number and the refusal's.
 fn tell(a: Answered, sheet: Sheet, line: u64, out: &mut [u8], at: usize) -> LineReply
     ensures { λ r. ⌜ Finished (carriedWalk line (outcome a) sheet) (now (out .entry)) at (now (out .exit)) r ⌝ }
 {

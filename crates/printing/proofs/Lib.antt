@@ -1,2 +1,3 @@
 pub mod LineLengths
+pub mod NothingWritten
 mod WorkedOutput

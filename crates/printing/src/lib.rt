@@ -2,8 +2,7 @@
 ghost use Prim.Native.Nat.{_+_, _*_, _≤_};
 ghost use lib.ListN.{length};
 ghost use Rattle.centroid.specs.Centroid.{outlineCentroidCall};
-ghost use Rattle.decimals.specs.Decimal.{fieldRoom};
-ghost use Rattle.decimals.specs.Buffer.{Written};
+ghost use Rattle.decimals.specs.Buffer.{fieldRoom, Written};
 ghost use Rattle.printing.specs.Output.{totalsText, centreText, figuresText, outlineLine, refusalLine, sheetLine};
 ghost use Rattle.printing.specs.Buffer.{fitting};
 use centroid::CentroidAnswer;

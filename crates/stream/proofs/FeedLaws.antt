@@ -8,12 +8,11 @@ use lib.Dec.{ltb}
 use borrow.Author.Tests.{le-ltb, ltb-false}
 use lib.ListN.{length, drop, length-append, length-drop}
 use lib.Seq.{drop-drop}
-use Rattle.lines.proofs.NothingWritten.{none-written}
 use Rattle.outline.specs.declared.Sheet.{Sheet}
 use Rattle.printing.specs.Buffer.{lineRoom, fitting}
 use Rattle.decimals.specs.Buffer.{overwritten, Written}
 use Rattle.integers.proofs.Cases.{by-cond}
-use Rattle.decimals.proofs.BufferLaws.{then}
+use Rattle.decimals.proofs.BufferLaws.{none-written, then}
 use Rattle.text_program.specs.declared.State.{State}
 use Rattle.text_program.specs.Stream.{Step, halted, followed, step, steps, feedCall}
 use Rattle.text_program.proofs.Progress.{workLeft, StepProgress, stays, less, step-progress, feed-steps}

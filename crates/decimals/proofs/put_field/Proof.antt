@@ -7,7 +7,8 @@ use lib.ListN.{length, length-set}
 use mir.Syntax.{w64}
 use mir.Val.{toZ, ofZ}
 use mir.ValLaws.{toZ-ofZ}
-use Rattle.decimals.specs.Decimal.{signed, field, fieldRoom}
+use Rattle.decimals.specs.Decimal.{signed, field}
+use Rattle.decimals.specs.Buffer.{fieldRoom}
 use Rattle.decimals.proofs.BufferLaws.{has-room, not-written, text-written, fits-behind, written-behind}
 use Rattle.decimals.proofs.FieldLaws.{field-fits}
 use Rattle.decimals.proofs.put_field.Statement.{statement}

@@ -5,7 +5,8 @@ use native.Mathlib.Omega.{arith}
 use borrow.Author.Needs.{needs}
 use lib.ListN.{length, length-set}
 use lib.IntN.{pos}
-use Rattle.decimals.specs.Decimal.{decimal, signed, field, fieldRoom}
+use Rattle.decimals.specs.Decimal.{decimal, signed, field}
+use Rattle.decimals.specs.Buffer.{fieldRoom}
 use Rattle.decimals.proofs.BufferLaws.{has-room, not-written, text-written, fits-behind, written-behind}
 use Rattle.decimals.proofs.FieldLaws.{natural-fits}
 use Rattle.decimals.proofs.put_natural.Statement.{statement}

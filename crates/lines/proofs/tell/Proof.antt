@@ -3,7 +3,7 @@ use mathlib.Core.Path.{refl}
 use borrow.Author.Needs.{needs}
 use borrow.Author.Tests.{eq-eqb, ne-eqb}
 use Rattle.text_program.specs.Program.{carriedWalk}
-use Rattle.lines.proofs.NothingWritten.{nothing-written}
+use Rattle.printing.proofs.NothingWritten.{nothing-written}
 use Rattle.lines.proofs.tell.Statement.{statement}
 use Rattle.lines.proofs.tell.Tie as tie
 

@@ -16,8 +16,8 @@ use Rattle.centroid.specs.declared.CentroidAnswer.{CentroidAnswer}
 use Rattle.centroid.specs.declared.CentroidAnswer.the-variants.{At, OutsideLimits, NoArea}
 use Rattle.centroid.specs.Centroid.{outlineCentroidCall}
 use Rattle.centroid.specs.Answers.{reading}
-use Rattle.decimals.specs.Decimal.{field, fieldRoom}
-use Rattle.decimals.specs.Buffer.{Written}
+use Rattle.decimals.specs.Decimal.{field}
+use Rattle.decimals.specs.Buffer.{fieldRoom, Written}
 use Rattle.decimals.proofs.BufferLaws.{none-yet, and-byte}
 use Rattle.decimals.proofs.FieldLaws.{and-field}
 use Rattle.printing.specs.Output.{centreText}

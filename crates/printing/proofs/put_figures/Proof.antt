@@ -5,7 +5,7 @@ use native.Mathlib.Omega.{arith}
 use borrow.Author.Needs.{needs}
 use Rattle.outline.specs.private.Fit.{Fit}
 use Rattle.centroid.specs.Centroid.{outlineCentroidCall}
-use Rattle.decimals.specs.Decimal.{fieldRoom}
+use Rattle.decimals.specs.Buffer.{fieldRoom}
 use Rattle.decimals.proofs.BufferLaws.{SoFar, none-yet, and-text, and-byte, room-left}
 use Rattle.printing.specs.Output.{totalsText, centreText}
 use Rattle.printing.proofs.LineLengths.{wide, fit-wide, totals-length, centre-length}

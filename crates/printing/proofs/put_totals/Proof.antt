@@ -3,7 +3,7 @@ use Prim.Native.Nat.{_*_}
 use borrow.Author.Needs.{needs}
 use mir.Syntax.{w64}
 use mir.Val.{SFits}
-use Rattle.decimals.specs.Decimal.{fieldRoom}
+use Rattle.decimals.specs.Buffer.{fieldRoom}
 use Rattle.decimals.proofs.BufferLaws.{SoFar, none-yet}
 use Rattle.decimals.proofs.FieldLaws.{and-field}
 use Rattle.printing.specs.Output.{totalsText}

@@ -1,17 +1,12 @@
 -- A line that prints nothing leaves the buffer and the place in it.
 use Prim.Native.Nat.{ℕ, _+_}
-use mathlib.Core.Path.{sym}
 use mathlib.Core.List.{List, []}
-use native.Mathlib.Omega.{arith}
 use lib.Dec.{ltb}
 use lib.ListN.{length}
 use Rattle.printing.specs.Buffer.{lineRoom, fitting}
 use Rattle.decimals.specs.Buffer.{Written}
 use Rattle.integers.proofs.Cases.{by-cond}
-use Rattle.decimals.proofs.BufferLaws.{put-nothing}
-
-pub none-written : (o : List ℕ) (at : ℕ) → Written o at [] o at
-none-written o at = record { buffer = sym (put-nothing o at); end = omega arith }
+use Rattle.decimals.proofs.BufferLaws.{none-written}
 
 pub nothing-written : (o : List ℕ) (at : ℕ) → Written o at (fitting o at []) o at
 unfolding fitting
