@@ -1,5 +1,5 @@
 -- `stream::feed` meets its contract: the loop takes the call's steps one after the other.
-use Prim.Native.Nat.{_+_, _-_}
+use Prim.Native.Nat.{_+_}
 use mathlib.Core.Path.{_≡_, sym, ap}
 use mathlib.Core.Bool.{true, cond}
 use native.Mathlib.Omega.{arith}
