@@ -1,6 +1,6 @@
 // Calls for programs in other languages: the static library defines each under its plain name. A number passes as itself, a list or a buffer as a pointer and then a
-// length. Each answers 0 or the number of a refusal, with zeros for totals, centre or sums, or 100 where the buffer is too short. Thin: each hands on to the crate that
-// makes the reply.
+// length. Each answers 0 or the number of a refusal, with zeros for totals, centre or sums, or 100 where the buffer is too short. Thin: the calls on
+// outlines hand on to outline_replies; mavrihkel_region_sums asks cells and has region_replies write the answer.
 ghost use mathlib.Core.Path.{_≡_};
 ghost use Rattle.outline.specs.ListCall.{listCall};
 ghost use Rattle.outline.specs.MapCall.{mapCall};
