@@ -6,12 +6,12 @@ use denote.Enum.Laws as EL
 use Rattle.outline.specs.declared.Walk.{Walk}
 use Rattle.outline.proofs.Walk as T
 use Rattle.outline.proofs.Walk.Laws as T′
-use Rattle.outline_calls.specs.declared.walk.PointReply.{PointReply}
-use Rattle.outline_calls.specs.declared.walk.PointAnswer.{PointAnswer}
-use Rattle.outline_calls.proofs.walk.PointReply as S
-use Rattle.outline_calls.proofs.walk.PointReply.Laws as S′
-use Rattle.outline_calls.proofs.walk.PointAnswer as R
-use Rattle.outline_calls.proofs.walk.PointAnswer.Laws as R′
+use Rattle.outline_answers.specs.declared.PointReply.{PointReply}
+use Rattle.outline_answers.specs.declared.PointAnswer.{PointAnswer}
+use Rattle.outline_answers.proofs.PointReply as S
+use Rattle.outline_answers.proofs.PointReply.Laws as S′
+use Rattle.outline_answers.proofs.PointAnswer as R
+use Rattle.outline_answers.proofs.PointAnswer.Laws as R′
 
 abbrev pub vals : Walk → List Val
 vals = LL.vals T.the-type T′.the-laws

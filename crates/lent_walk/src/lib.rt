@@ -2,10 +2,10 @@
 // it leaves is stored back.
 ghost use mathlib.Core.Path.{_≡_};
 ghost use Rattle.outline.specs.WalkCalls.{pointCall};
-ghost use Rattle.outline_calls.specs.WalkAnswers.{pointReading};
+ghost use Rattle.outline_answers.specs.WalkAnswers.{pointReading};
 use outline::Walk;
-use outline_calls::PointAnswer;
-use outline_calls::PointReply;
+use outline_answers::PointAnswer;
+use outline_answers::PointReply;
 use outline_calls::point;
 
 pub fn point_in(w: &mut Walk, x: i32, y: i32) -> PointAnswer

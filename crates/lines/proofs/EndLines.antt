@@ -11,10 +11,10 @@ use Rattle.outline.specs.declared.Totals.{Totals}
 use Rattle.outline.specs.declared.Walk.{Walk}
 use Rattle.outline.specs.declared.Sheet.{Sheet}
 use Rattle.outline.specs.WalkCalls.{EndOutcome}
-use Rattle.outline_calls.proofs.walk.EndAnswer.{the-type}
-use Rattle.outline_calls.specs.declared.walk.EndAnswer.{EndAnswer}
-use Rattle.outline_calls.specs.declared.walk.EndAnswer.the-variants.{Accepted, Impossible, NotOpen, TooFewPoints, SheetFull, SheetExceeded}
-use Rattle.outline_calls.specs.WalkAnswers.{endNumber, endReading}
+use Rattle.outline_answers.proofs.EndAnswer.{the-type}
+use Rattle.outline_answers.specs.declared.EndAnswer.{EndAnswer}
+use Rattle.outline_answers.specs.declared.EndAnswer.the-variants.{Accepted, Impossible, NotOpen, TooFewPoints, SheetFull, SheetExceeded}
+use Rattle.outline_answers.specs.WalkAnswers.{endNumber, endReading}
 use Rattle.printing.specs.Output.{outlineLine, refusalLine}
 use Rattle.decimals.specs.Buffer.{Written}
 use Rattle.printing.specs.Buffer.{fitting}

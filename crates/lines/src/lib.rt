@@ -13,7 +13,7 @@ use calls::begin_walk;
 use calls::extend_walk;
 use outline::Sheet;
 use outline::Walk;
-use outline_calls::EndAnswer;
+use outline_answers::EndAnswer;
 use parsing::LineForm;
 use printing::put_outline;
 use printing::put_refusal;

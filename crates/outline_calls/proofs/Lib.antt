@@ -1,4 +1,3 @@
 pub mod Sizes
 pub mod ListSteps
 pub mod WalkTotals
-pub mod ReadingLaws

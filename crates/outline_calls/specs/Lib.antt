@@ -1,3 +1,1 @@
-pub mod ListAnswer
-pub mod WalkAnswers
 pub mod private

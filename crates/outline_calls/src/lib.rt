@@ -10,14 +10,9 @@ ghost use Rattle.outline_calls.specs.private.Terms.{firstTerm, secondTer
 mod list;
 mod walk;
 
-pub use list::OutlineAnswer;
 pub use list::outline_totals;
 use outline::Position;
 use outline::Totals;
-pub use walk::EndAnswer;
-pub use walk::EndReply;
-pub use walk::PointAnswer;
-pub use walk::PointReply;
 pub use walk::end;
 pub use walk::point;
 

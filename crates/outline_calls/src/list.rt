@@ -6,32 +6,14 @@ ghost use Prim.Native.Nat.{_≤_};
 ghost use lib.ListN.{length, drop};
 ghost use Rattle.outline.specs.EdgeSums.{outlineTotals};
 ghost use Rattle.outline.specs.ListCall.{points as pointsOf, wrongLength, anyOutside, listCall};
-ghost use Rattle.outline_calls.specs.ListAnswer.{reading};
+ghost use Rattle.outline_answers.specs.ListAnswer.{reading};
 use crate::add_edge;
 use outline::Totals;
 use outline::ZEROS;
+use outline_answers::OutlineAnswer;
 use point_list::any_outside;
 use point_list::position_at;
 use point_list::wrong_length;
-
-pub enum OutlineAnswer {
-    Accepted(Totals),
-    WrongLength,
-    OutsideLimits,
-}
-
-impl OutlineAnswer {
-    // The number of the refusal in document 01, 0 where there is none.
-    pub fn number(self) -> u32
-        ensures { λ r. ⌜ r ≡ reading self .number ⌝ }
-    {
-        match self {
-            OutlineAnswer::Accepted(_) => 0,
-            OutlineAnswer::WrongLength => 2,
-            OutlineAnswer::OutsideLimits => 1,
-        }
-    }
-}
 
 // The points to the front of the buffer; what lies behind them stays.
 fn copy_points(points: &[i32], buffer: &mut [i32])

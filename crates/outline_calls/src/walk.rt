@@ -4,7 +4,7 @@ ghost use mathlib.Core.Bool.{true, false};
 ghost use Prim.Native.Nat.{_<_, _≤_};
 ghost use Rattle.outline.specs.ListCall.{outside};
 ghost use Rattle.outline.specs.WalkCalls.{extended, closedTotals, impossibleWalk, impossibleSheet, pointCall, endCall};
-ghost use Rattle.outline_calls.specs.WalkAnswers.{pointNumber, pointReading, endNumber, endReading};
+ghost use Rattle.outline_answers.specs.WalkAnswers.{pointReading, endReading};
 use crate::add;
 use crate::add_edge;
 use limits::outside_limits;
@@ -13,69 +13,14 @@ use outline::Position;
 use outline::Sheet;
 use outline::Totals;
 use outline::Walk;
+use outline_answers::EndAnswer;
+use outline_answers::EndReply;
+use outline_answers::PointAnswer;
+use outline_answers::PointReply;
 use walk_state::impossible_sheet;
 use walk_state::impossible_walk;
 use walk_state::new_walk;
 use walk_state::open_walk;
-
-pub enum PointAnswer {
-    Accepted,
-    Impossible,
-    NotOpen,
-    OutsideLimits,
-    Full,
-}
-
-impl PointAnswer {
-    // The number of the refusal in document 01, 0 where there is none.
-    pub fn number(self) -> u32
-        ensures { λ r. ⌜ r ≡ pointNumber self ⌝ }
-    {
-        match self {
-            PointAnswer::Accepted => 0,
-            PointAnswer::Impossible => 28,
-            PointAnswer::NotOpen => 21,
-            PointAnswer::OutsideLimits => 1,
-            PointAnswer::Full => 23,
-        }
-    }
-}
-
-pub struct PointReply {
-    pub answer: PointAnswer,
-    pub walk: Walk,
-}
-
-pub enum EndAnswer {
-    Accepted(Totals),
-    Impossible,
-    NotOpen,
-    TooFewPoints,
-    SheetFull,
-    SheetExceeded,
-}
-
-impl EndAnswer {
-    // The number of the refusal in document 01, 0 where there is none.
-    pub fn number(self) -> u32
-        ensures { λ r. ⌜ r ≡ endNumber self ⌝ }
-    {
-        match self {
-            EndAnswer::Accepted(_) => 0,
-            EndAnswer::Impossible => 28,
-            EndAnswer::NotOpen => 21,
-            EndAnswer::TooFewPoints => 24,
-            EndAnswer::SheetFull => 25,
-            EndAnswer::SheetExceeded => 26,
-        }
-    }
-}
-
-pub struct EndReply {
-    pub answer: EndAnswer,
-    pub walk: Walk,
-    pub sheet: Sheet,
-}
 
 // The walk with one point more.
 fn extended_walk(w: Walk, p: Position) -> Walk

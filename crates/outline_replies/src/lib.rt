@@ -4,8 +4,8 @@ ghost use mathlib.Core.List.{[], _∷_};
 ghost use Rattle.outline.specs.EdgeSums.{zeros};
 ghost use Rattle.outline.specs.ListCall.{listCall};
 ghost use Rattle.outline.specs.MapCall.{mapCall};
-ghost use Rattle.outline_calls.specs.ListAnswer.{reading as listReading};
-ghost use Rattle.outline_calls.specs.WalkAnswers.{endTotals};
+ghost use Rattle.outline_answers.specs.ListAnswer.{reading as listReading};
+ghost use Rattle.outline_answers.specs.WalkAnswers.{endTotals};
 ghost use Rattle.affine.specs.Answer.{reading as mapReading};
 ghost use Rattle.centroid.specs.Centroid.{outlineCentroidCall};
 ghost use Rattle.centroid.specs.Answers.{reading as centreReading};
@@ -15,8 +15,8 @@ use centroid::CentroidAnswer;
 use outline::AffineMap;
 use outline::Totals;
 use outline::ZEROS;
-use outline_calls::EndAnswer;
-use outline_calls::OutlineAnswer;
+use outline_answers::EndAnswer;
+use outline_answers::OutlineAnswer;
 use replies::put_values;
 
 // The totals of a refusal, by the definition's name.

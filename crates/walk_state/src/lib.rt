@@ -3,7 +3,7 @@ mod handed_in;
 
 ghost use mathlib.Core.Path.{_≡_};
 ghost use Rattle.outline.specs.WalkCalls.{openWalk, closed, newSheet, beginCall, abandonCall};
-ghost use Rattle.walk_state.specs.Answers.{beginNumber, beginReading, abandonNumber, abandonReading};
+ghost use Rattle.outline_answers.specs.WalkAnswers.{beginReading, abandonReading};
 pub use handed_in::impossible_sheet;
 pub use handed_in::impossible_walk;
 use outline::ORIGIN;
@@ -12,54 +12,10 @@ use outline::Sheet;
 use outline::Totals;
 use outline::Walk;
 use outline::ZEROS;
-
-pub enum BeginAnswer {
-    Accepted,
-    Impossible,
-    AlreadyOpen,
-}
-
-impl BeginAnswer {
-    // The number of the refusal in document 01, 0 where there is none.
-    pub fn number(self) -> u32
-        ensures { λ r. ⌜ r ≡ beginNumber self ⌝ }
-    {
-        match self {
-            BeginAnswer::Accepted => 0,
-            BeginAnswer::Impossible => 28,
-            BeginAnswer::AlreadyOpen => 22,
-        }
-    }
-}
-
-pub struct BeginReply {
-    pub answer: BeginAnswer,
-    pub walk: Walk,
-}
-
-pub enum AbandonAnswer {
-    Accepted,
-    Impossible,
-    NotOpen,
-}
-
-impl AbandonAnswer {
-    // The number of the refusal in document 01, 0 where there is none.
-    pub fn number(self) -> u32
-        ensures { λ r. ⌜ r ≡ abandonNumber self ⌝ }
-    {
-        match self {
-            AbandonAnswer::Accepted => 0,
-            AbandonAnswer::Impossible => 28,
-            AbandonAnswer::NotOpen => 21,
-        }
-    }
-}
-
-pub struct AbandonReply {
-    pub answer: AbandonAnswer,
-    pub walk: Walk,
-}
+use outline_answers::AbandonAnswer;
+use outline_answers::AbandonReply;
+use outline_answers::BeginAnswer;
+use outline_answers::BeginReply;
 
 const CLOSED: Walk = Walk {
     is_open: false,

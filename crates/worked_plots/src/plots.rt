@@ -6,8 +6,8 @@ ghost use lib.ListN.{take};
 ghost use Rattle.outline.specs.ListCall.{listCall, points};
 ghost use Rattle.outline.specs.MapCall.{mapCall};
 ghost use Rattle.outline.specs.WalkCalls.{closed, newSheet, pointCall, endCall};
-ghost use Rattle.outline_calls.specs.ListAnswer.{reading as listReading};
-ghost use Rattle.outline_calls.specs.WalkAnswers.{pointReading, endReading};
+ghost use Rattle.outline_answers.specs.ListAnswer.{reading as listReading};
+ghost use Rattle.outline_answers.specs.WalkAnswers.{pointReading, endReading};
 ghost use Rattle.affine.specs.Answer.{reading as mapReading};
 ghost use Rattle.cells.specs.RegionCall.{Answers};
 ghost use Rattle.worked_plots.specs.Plots.{roundSquare, doubling, afterPoints, square, walkedSquare, endAfter, triangle, runOf, handedIn};
@@ -19,9 +19,9 @@ use outline::ORIGIN;
 use outline::Position;
 use outline::Totals;
 use outline::Walk;
-use outline_calls::EndReply;
-use outline_calls::OutlineAnswer;
-use outline_calls::PointReply;
+use outline_answers::EndReply;
+use outline_answers::OutlineAnswer;
+use outline_answers::PointReply;
 use outline_replies::totals_of_list;
 
 // The corners of a square, x and y in turn, anticlockwise.

@@ -5,7 +5,7 @@ use native.Mathlib.Numerals.{add-one}
 use native.Mathlib.Omega.{arith}
 use borrow.Author.Needs.{needs}
 use Rattle.outline.specs.WalkCalls.{endCall}
-use Rattle.outline_calls.specs.WalkAnswers.{endReading}
+use Rattle.outline_answers.specs.WalkAnswers.{endReading}
 use Rattle.worked_plots.specs.Plots.{walkedSquare, endAfter}
 use Rattle.worked_plots.proofs.plots.sheet_of_squares.Statement.{statement}
 use Rattle.worked_plots.proofs.plots.sheet_of_squares.Tie as tie

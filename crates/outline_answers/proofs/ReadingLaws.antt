@@ -1,0 +1,93 @@
+-- The readings are one to one: a reply of each call follows from its number and its values. So no two replies have the same reading.
+use mathlib.Core.Path.{_≡_, refl, sym, _∙_, ap}
+use mathlib.Core.Bool.{cond}
+use Prim.Native.Nat.{ℕ}
+use lib.Dec.{eqb}
+use Rattle.outline.specs.declared.Totals.{Totals}
+use Rattle.outline_answers.specs.declared.OutlineAnswer.{OutlineAnswer}
+use Rattle.outline_answers.specs.declared.OutlineAnswer.the-variants as outline
+use Rattle.outline_answers.specs.declared.PointAnswer.{PointAnswer}
+use Rattle.outline_answers.specs.declared.PointAnswer.the-variants as point
+use Rattle.outline_answers.specs.declared.PointReply.{PointReply}
+use Rattle.outline_answers.specs.declared.EndAnswer.{EndAnswer}
+use Rattle.outline_answers.specs.declared.EndAnswer.the-variants as end
+use Rattle.outline_answers.specs.declared.EndReply.{EndReply}
+use Rattle.outline_answers.specs.ListAnswer.{reading}
+use Rattle.outline_answers.specs.WalkAnswers.{pointNumber, pointReading, endNumber, endTotals, endReading}
+use Rattle.outline_answers.specs.declared.BeginAnswer.{BeginAnswer}
+use Rattle.outline_answers.specs.declared.BeginAnswer.the-variants as begin
+use Rattle.outline_answers.specs.declared.BeginReply.{BeginReply}
+use Rattle.outline_answers.specs.declared.AbandonAnswer.{AbandonAnswer}
+use Rattle.outline_answers.specs.declared.AbandonAnswer.the-variants as abandon
+use Rattle.outline_answers.specs.declared.AbandonReply.{AbandonReply}
+use Rattle.outline_answers.specs.WalkAnswers.{beginNumber, beginReading, abandonNumber, abandonReading}
+
+-- ---- begin
+
+abbrev beginOf : ℕ → BeginAnswer
+beginOf n = cond (eqb n 28) begin.Impossible (cond (eqb n 22) begin.AlreadyOpen begin.Accepted)
+
+begin-back : (a : BeginAnswer) → beginOf (beginNumber a) ≡ a
+begin-back begin.Accepted = refl
+begin-back begin.Impossible = refl
+begin-back begin.AlreadyOpen = refl
+
+pub begin-reading-one-to-one : (r s : BeginReply) → beginReading r ≡ beginReading s → r ≡ s
+begin-reading-one-to-one r s e = λ i. record { answer = (sym (begin-back (r .answer)) ∙ ap (λ o. beginOf (o .number)) e ∙ begin-back (s .answer)) i; walk = e i .walk }
+
+-- ---- abandon
+
+abbrev abandonOf : ℕ → AbandonAnswer
+abandonOf n = cond (eqb n 28) abandon.Impossible (cond (eqb n 21) abandon.NotOpen abandon.Accepted)
+
+abandon-back : (a : AbandonAnswer) → abandonOf (abandonNumber a) ≡ a
+abandon-back abandon.Accepted = refl
+abandon-back abandon.Impossible = refl
+abandon-back abandon.NotOpen = refl
+
+pub abandon-reading-one-to-one : (r s : AbandonReply) → abandonReading r ≡ abandonReading s → r ≡ s
+abandon-reading-one-to-one r s e = λ i. record { answer = (sym (abandon-back (r .answer)) ∙ ap (λ o. abandonOf (o .number)) e ∙ abandon-back (s .answer)) i; walk = e i .walk }
+
+-- ---- the call on a whole list
+
+abbrev outlineOf : ℕ → Totals → OutlineAnswer
+outlineOf n t = cond (eqb n 2) outline.WrongLength (cond (eqb n 1) outline.OutsideLimits (outline.Accepted t))
+
+outline-back : (a : OutlineAnswer) → outlineOf (reading a .number) (reading a .totals) ≡ a
+outline-back (outline.Accepted t) = refl
+outline-back outline.WrongLength = refl
+outline-back outline.OutsideLimits = refl
+
+pub reading-one-to-one : (a b : OutlineAnswer) → reading a ≡ reading b → a ≡ b
+reading-one-to-one a b e = sym (outline-back a) ∙ ap (λ r. outlineOf (r .number) (r .totals)) e ∙ outline-back b
+
+-- ---- point
+
+abbrev pointOf : ℕ → PointAnswer
+pointOf n = cond (eqb n 28) point.Impossible (cond (eqb n 21) point.NotOpen (cond (eqb n 1) point.OutsideLimits (cond (eqb n 23) point.Full point.Accepted)))
+
+point-back : (a : PointAnswer) → pointOf (pointNumber a) ≡ a
+point-back point.Accepted = refl
+point-back point.Impossible = refl
+point-back point.NotOpen = refl
+point-back point.OutsideLimits = refl
+point-back point.Full = refl
+
+pub point-reading-one-to-one : (r s : PointReply) → pointReading r ≡ pointReading s → r ≡ s
+point-reading-one-to-one r s e = λ i. record { answer = (sym (point-back (r .answer)) ∙ ap (λ o. pointOf (o .number)) e ∙ point-back (s .answer)) i; walk = e i .walk }
+
+-- ---- end
+
+abbrev endOf : ℕ → Totals → EndAnswer
+endOf n t = cond (eqb n 28) end.Impossible (cond (eqb n 21) end.NotOpen (cond (eqb n 24) end.TooFewPoints (cond (eqb n 25) end.SheetFull (cond (eqb n 26) end.SheetExceeded (end.Accepted t)))))
+
+end-back : (a : EndAnswer) → endOf (endNumber a) (endTotals a) ≡ a
+end-back (end.Accepted t) = refl
+end-back end.Impossible = refl
+end-back end.NotOpen = refl
+end-back end.TooFewPoints = refl
+end-back end.SheetFull = refl
+end-back end.SheetExceeded = refl
+
+pub end-reading-one-to-one : (r s : EndReply) → endReading r ≡ endReading s → r ≡ s
+end-reading-one-to-one r s e = λ i. record { answer = (sym (end-back (r .answer)) ∙ ap (λ o. endOf (o .number) (o .totals)) e ∙ end-back (s .answer)) i; walk = e i .walk; sheet = e i .sheet }

@@ -1,0 +1,2 @@
+pub mod ListAnswer
+pub mod WalkAnswers
