@@ -24,7 +24,7 @@ from crates import listed_crates  # noqa: E402
 COPY = ROOT / "target" / "measured"
 MARK = "<!-- docs/landings/measure.py writes {} from here -->\n"
 MARK_ENDS = "<!-- to here -->\n"
-FUNCTION = re.compile(r'^(pub )?(?:pub\(crate\) )?(?:extern "C" )?fn \w+', re.MULTILINE)
+FUNCTION = re.compile(r'^ *(pub )?(?:pub\(crate\) )?(?:extern "C" )?fn \w+', re.MULTILINE)
 DECLARATION = re.compile(r"(abbrev |unfoldable )?(?:pub )?(record |data )?[^\s:(){}]+ (?:[({][^=]*)?: ")
 BESIDE = {"second": "*.py", "docs": "**/*.py", "bench": "*.*", "callers": "**/*.[chr]*", ".ci": "*"}
 
