@@ -8,10 +8,14 @@ use Prim.Native.Nat.{ℕ, _<_, _≤_, _^_}
 use lib.Dec.{T, leb, ltb}
 use lib.IntN.{ℤ, pos, natAbs}
 use lib.Signed.{_<ℤ_}
-use mir.Syntax.{Width}
-use mir.Val.{SFits, hbits, toZ}
+use mir.Syntax.{Width, w64}
+use mir.Val.{SFits, hbits, toZ, ofZ}
 use Rattle.integers.proofs.Bounds.{Within}
 use Rattle.integers.proofs.SignedCode.{Code, plain, size, both, steps, runs, run-fits, run-within, run-divisor, Test, plainT, stepsT, tested}
+
+-- A number as code reads it back from an i64.
+abbrev pub i64 : ℤ → ℤ
+i64 z = toZ w64 (ofZ w64 z)
 
 pub record Sized : Type 0 where
   pub number : ℤ

@@ -12,7 +12,7 @@ use mir.Val.{toZ, ofZ}
 use mir.Facts.{toZ-ofZ}
 use Rattle.integers.proofs.Flags.{tells}
 use Rattle.integers.proofs.SignedCode.{code}
-use Rattle.integers.proofs.SizedNumbers.{Sized, sized, fits, is-plain}
+use Rattle.integers.proofs.SizedNumbers.{i64, Sized, sized, fits, is-plain}
 use Rattle.outline.specs.declared.Totals.{Totals}
 use Rattle.outline.specs.EdgeSums.{exceed}
 use Rattle.outline.specs.private.Fit.{Fit}
@@ -54,10 +54,6 @@ above-y6 c = above-a2 (c .before .before)
 
 -- ---- what is known there
 
--- a number as the machine holds it
-abbrev held : ℤ → ℤ
-held z = toZ w64 (ofZ w64 z)
-
 fit : (s : tie.Start) → TotalsFit (s .args .t)
 fit s = search needs
 
@@ -78,16 +74,16 @@ module _ (c : tie.Else1) where
   abbrev operands : List Sized
   operands = sized (totals .a2) (within .a2) ∷ sized (totals .x6) (within .x6) ∷ sized (totals .y6) (within .y6) ∷ []
 
-  tripled : held (pos 3 *ℤ held (totals .a2)) ≡ pos 3 *ℤ totals .a2
+  tripled : i64 (pos 3 *ℤ i64 (totals .a2)) ≡ pos 3 *ℤ totals .a2
   tripled = is-plain operands (search code depth 40) tt
 
-  tripled-negated : held (pos 0 -ℤ held (pos 3 *ℤ held (totals .a2))) ≡ negℤ (pos 3 *ℤ totals .a2)
+  tripled-negated : i64 (pos 0 -ℤ i64 (pos 3 *ℤ i64 (totals .a2))) ≡ negℤ (pos 3 *ℤ totals .a2)
   tripled-negated = is-plain operands (search code depth 40) tt ∙ +ℤ-idl (negℤ (pos 3 *ℤ totals .a2))
 
-  x6-negated : held (pos 0 -ℤ held (totals .x6)) ≡ negℤ (totals .x6)
+  x6-negated : i64 (pos 0 -ℤ i64 (totals .x6)) ≡ negℤ (totals .x6)
   x6-negated = is-plain operands (search code depth 40) tt ∙ +ℤ-idl (negℤ (totals .x6))
 
-  y6-negated : held (pos 0 -ℤ held (totals .y6)) ≡ negℤ (totals .y6)
+  y6-negated : i64 (pos 0 -ℤ i64 (totals .y6)) ≡ negℤ (totals .y6)
   y6-negated = is-plain operands (search code depth 40) tt ∙ +ℤ-idl (negℤ (totals .y6))
 
 -- 27 does not come.

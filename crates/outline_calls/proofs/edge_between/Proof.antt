@@ -10,7 +10,7 @@ use mir.Val.{toZ, ofZ}
 use mir.Facts.{toZ-ofZ}
 use Rattle.integers.proofs.Bounds.{Within}
 use Rattle.integers.proofs.SignedCode.{code}
-use Rattle.integers.proofs.SizedNumbers.{Sized, sized, fits, is-plain}
+use Rattle.integers.proofs.SizedNumbers.{i64, Sized, sized, fits, is-plain}
 use Rattle.outline.specs.declared.Position.{Position}
 use Rattle.outline.specs.EdgeSums.{cross, x6, y6, xx12, xy24, yy12, over}
 use Rattle.outline.proofs.Limits.{never-over, outside-not}
@@ -19,18 +19,15 @@ use Rattle.outline_calls.specs.private.Terms.{firstTerm, secondTerm, mix
 use Rattle.outline_calls.proofs.edge_between.Statement.{statement}
 use Rattle.outline_calls.proofs.edge_between.Tie as tie
 
--- A number of 64 bits as the code reads it from a local, a coordinate as it casts and reads it, and the cross product as it makes it of four.
-abbrev read : ℤ → ℤ
-read z = toZ w64 (ofZ w64 z)
-
+-- A coordinate as the code casts and reads it, and the cross product as it makes it of four.
 abbrev cast : ℤ → ℤ
-cast z = read (toZ w32 (ofZ w32 z))
+cast z = i64 (toZ w32 (ofZ w32 z))
 
 abbrev made : Position → Position → ℤ
-made a b = read (read (cast (a .x) *ℤ cast (b .y)) -ℤ read (cast (b .x) *ℤ cast (a .y)))
+made a b = i64 (i64 (cast (a .x) *ℤ cast (b .y)) -ℤ i64 (cast (b .x) *ℤ cast (a .y)))
 
 -- A field that is the result r of a call.
-called : {r z v : ℤ} → z ≡ v → mag r < 2 ^ 63 → r ≡ z → read r ≡ v
+called : {r z v : ℤ} → z ≡ v → mag r < 2 ^ 63 → r ≡ z → i64 r ≡ v
 called f ok e = toZ-ofZ (record { sfits = ok }) ∙ e ∙ f
 
 module _ (s : tie.Start) where
@@ -95,7 +92,7 @@ module _ (s : tie.Start) where
   c-small : over 8000000 (made a b) ≡ false
   c-small = never-over operands 8000000 (search code depth 40) tt
 
--- The code reads the coordinates into locals, two steps each: here each is read, and the way back to the start.
+-- The code reads the coordinates into locals, two steps each: here each is i64, and the way back to the start.
 abbrev at-x : tie.After-struct-told → tie.Start
 at-x c = c .before .before
 
