@@ -1,41 +1,15 @@
--- A run's sums in closed form are its sums cell by cell, and the sums below k have the code's formulas, by induction and the ring solver.
-use mathlib.Core.Path.{_≡_, refl, sym, _∙_, ap, ap₂}
+-- A run's sums in closed form are its sums cell by cell, by induction and the ring solver.
+use mathlib.Core.Path.{_≡_, sym, _∙_, ap, ap₂}
 use mathlib.Core.List.{[], _∷_}
-use Prim.Native.Nat.{ℕ, zero, suc, _+_, _<_}
-use native.Mathlib.Nat.{add-zero, mul-div-cancel-left}
+use Prim.Native.Nat.{ℕ, zero, suc, _+_}
+use native.Mathlib.Nat.{add-zero}
 use native.Mathlib.Numerals.{add-one}
 use native.Mathlib.Omega.{arith}
 use lib.IntN.{ℤ, pos, _+ℤ_, _-ℤ_, _*ℤ_, +ℤ-invr}
-use lib.Signed.{quotZ}
-use Rattle.integers.proofs.Ring.{ring, quote, given}
+use Rattle.integers.proofs.Ring.{ring, quote}
 use Rattle.centroid.specs.declared.CellSums.{CellSums}
 use Rattle.cells.specs.CellSums.{cellsFrom, cellTerms, zeros, plus, sumsOver}
-use Rattle.cells.specs.private.SumsBelow.{indexSum, squareSum}
-
--- ---- the sums below k
-
-index-step : (k s : ℤ) → k *ℤ (k -ℤ pos 1) ≡ pos 2 *ℤ s → (k +ℤ pos 1) *ℤ (k +ℤ pos 1 -ℤ pos 1) ≡ pos 2 *ℤ (s +ℤ k)
-index-step k s h = given (pos 1) h (ring (k ∷ s ∷ []) (search quote depth 60 fits 20000) (search quote depth 60 fits 20000) tt)
-
-pub index-closed : (k : ℕ) → pos k *ℤ (pos k -ℤ pos 1) ≡ pos 2 *ℤ pos (indexSum k)
-unfolding indexSum
-index-closed zero = refl
-index-closed (suc k) = rw (← add-one k) (index-step (pos k) (pos (indexSum k)) (index-closed k))
-
-square-step : (k s : ℤ) → k *ℤ (k -ℤ pos 1) *ℤ (pos 2 *ℤ k -ℤ pos 1) ≡ pos 6 *ℤ s
-    → (k +ℤ pos 1) *ℤ (k +ℤ pos 1 -ℤ pos 1) *ℤ (pos 2 *ℤ (k +ℤ pos 1) -ℤ pos 1) ≡ pos 6 *ℤ (s +ℤ k *ℤ k)
-square-step k s h = given (pos 1) h (ring (k ∷ s ∷ []) (search quote depth 60 fits 20000) (search quote depth 60 fits 20000) tt)
-
-pub square-closed : (k : ℕ) → pos k *ℤ (pos k -ℤ pos 1) *ℤ (pos 2 *ℤ pos k -ℤ pos 1) ≡ pos 6 *ℤ pos (squareSum k)
-unfolding squareSum
-square-closed zero = refl
-square-closed (suc k) = rw (← add-one k) (square-step (pos k) (pos (squareSum k)) (square-closed k))
-
--- A division without remainder.
-pub exact : (d n : ℕ) {z : ℤ} → 0 < d → z ≡ pos d *ℤ pos n → quotZ z (pos d) ≡ pos n
-exact d n h e = ap (λ x. quotZ x (pos d)) e ∙ ap pos (mul-div-cancel-left n h)
-
--- ---- a run's sums
+use Rattle.column_sums.specs.SumsBelow.{indexSum, squareSum}
 
 -- n cells of row y: a and s are the sums of indices and of squares below the first column, e and f those below the end.
 abbrev pub closed : (n y a e s f : ℤ) → CellSums

@@ -5,7 +5,7 @@ use mathlib.Core.List.{List, [], _∷_, _++_}
 use Prim.Native.Nat.{ℕ, zero, suc, _+_, _*_, _≤_, _^_}
 use native.Mathlib.Nat.{mul-le-mul}
 use native.Mathlib.Omega.{arith}
-use lib.IntN.{ℤ, pos, natAbs, +ℤ-assoc, +ℤ-idl}
+use lib.IntN.{+ℤ-assoc, +ℤ-idl}
 use lib.Dec.{ltb, eqb}
 use lib.ListN.{length}
 use borrow.Author.Tests.{ltb-false}
@@ -15,26 +15,7 @@ use Rattle.cells.specs.declared.Run.{Run}
 use Rattle.cells.specs.CellSums.{Cell, cellsFrom, cellsOf, allCells, cellTerms, zeros, plus, sumsOver, regionSums}
 use Rattle.cells.specs.RegionCall.{badRun, anyBad}
 use Rattle.cells.specs.private.Scan.{InGrid, SumsWithin}
-use Rattle.cells.specs.private.SumsBelow.{indexSum, squareSum}
 use Rattle.integers.proofs.Flags.{both-failed}
-
--- ---- the sums below k
-
-index-bound : (k : ℕ) → k ≤ 1024 → indexSum k ≤ k * 1024
-unfolding indexSum
-index-bound zero h = omega arith
-index-bound (suc k) h = omega (arith, index-bound k (omega arith))
-
-square-bound : (k : ℕ) → k ≤ 1024 → squareSum k ≤ k * 2 ^ 20
-unfolding squareSum
-square-bound zero h = omega arith
-square-bound (suc k) h = omega (arith, square-bound k (omega arith), mul-le-mul {n₁ = k} {m₁ = k} {n₂ = 1024} {m₂ = 1024} (omega arith) (omega arith))
-
-pub index-sized : {z : ℤ} (k : ℕ) → k ≤ 1024 → z ≡ pos (indexSum k) → natAbs z ≤ 2 ^ 20
-index-sized k h e = omega (arith, index-bound k h, ap natAbs e)
-
-pub square-sized : {z : ℤ} (k : ℕ) → k ≤ 1024 → z ≡ pos (squareSum k) → natAbs z ≤ 2 ^ 30
-square-sized k h e = omega (arith, square-bound k h, ap natAbs e)
 
 -- ---- sums
 
@@ -57,7 +38,7 @@ plus-within {s = s} {t = t} v w =
 
 -- ---- cells and runs
 
-cell-within : (c : Cell) → c .x ≤ 1023 → c .y ≤ 1023 → SumsWithin (2 ^ 20) (cellTerms c)
+pub cell-within : (c : Cell) → c .x ≤ 1023 → c .y ≤ 1023 → SumsWithin (2 ^ 20) (cellTerms c)
 cell-within c h k =
     record {
       count = omega arith;

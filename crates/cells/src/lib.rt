@@ -1,12 +1,10 @@
 // Document 01, "Cells": the sums of a region over the runs that a caller lends. Time goes by the number of runs, not of cells.
 ghost use mathlib.Core.Path.{_≡_};
 ghost use mathlib.Core.Bool.{not};
-ghost use Prim.Native.Nat.{_≤_, _^_};
-ghost use lib.IntN.{pos};
+ghost use Prim.Native.Nat.{_^_};
 ghost use Rattle.cells.specs.CellSums.{plus, sumsOver, cellsOf};
 ghost use Rattle.cells.specs.RegionCall.{badRun, liesAfter, reading, Answers};
 ghost use Rattle.cells.specs.private.Scan.{noRuns, answerWith, addRun, InGrid, SumsWithin, HasRoom};
-ghost use Rattle.cells.specs.private.SumsBelow.{indexSum, squareSum};
 
 // As many cells of a row as `length`, from the column `first` on. Laid out as in C, whose callers lend lists of them.
 #[repr(C)]
@@ -71,34 +69,17 @@ fn out_of_order(earlier: Run, run: Run) -> bool
     (run.first as u64) < earlier.first as u64 + earlier.length as u64
 }
 
-// 0 + 1 + .. + (k - 1).
-fn index_sum(k: u32) -> i64
-    requires { ⌜ k ≤ 1024 ⌝ }
-    ensures { λ r. ⌜ r ≡ pos (indexSum k) ⌝ }
-{
-    let n = k as i64;
-    n * (n - 1) / 2
-}
-
-// 0² + 1² + .. + (k - 1)².
-fn square_sum(k: u32) -> i64
-    requires { ⌜ k ≤ 1024 ⌝ }
-    ensures { λ r. ⌜ r ≡ pos (squareSum k) ⌝ }
-{
-    let n = k as i64;
-    n * (n - 1) * (2 * n - 1) / 6
-}
-
-// The sums of one run: those of x and x² are differences of the sums below its ends.
+// The sums of one run: those of x and x² are differences of the sums below its ends, which are at most 1,024.
 fn run_sums(run: Run) -> centroid::CellSums
     requires { ⌜ InGrid run ⌝ }
     ensures { λ r. ⌜ r ≡ sumsOver (cellsOf run) ⌝ }
 {
-    let end = run.first + run.length;
+    let first = run.first as u16;
+    let end = (run.first + run.length) as u16;
     let n = run.length as i64;
     let y = run.row as i64;
-    let x = index_sum(end) - index_sum(run.first);
-    let xx = square_sum(end) - square_sum(run.first);
+    let x = column_sums::index_sum(end) - column_sums::index_sum(first);
+    let xx = column_sums::square_sum(end) - column_sums::square_sum(first);
     centroid::CellSums {
         count: n,
         x,

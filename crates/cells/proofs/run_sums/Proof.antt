@@ -8,19 +8,16 @@ use mir.Syntax.{w64}
 use mir.Val.{SFits, toZ, ofZ}
 use borrow.Author.Needs.{needs}
 use Rattle.integers.proofs.SignedCode.{code, casts}
-use Rattle.integers.proofs.SizedNumbers.{Sized, sized, fits, is-plain}
+use Rattle.integers.proofs.SizedNumbers.{i64, Sized, sized, fits, is-plain}
 use Rattle.centroid.specs.declared.CellSums.{CellSums}
 use Rattle.cells.specs.declared.Run.{Run}
 use Rattle.cells.specs.CellSums.{cellsOf}
 use Rattle.cells.proofs.ClosedSums.{closed, run-closed}
-use Rattle.cells.proofs.SumLaws.{index-sized, square-sized}
+use Rattle.column_sums.proofs.SumBounds.{index-sized, square-sized}
 use Rattle.cells.proofs.run_sums.Statement.{statement}
 use Rattle.cells.proofs.run_sums.Tie as tie
 
 -- ---- what the code computes, of a run's length and row and the sums below its ends: a and e of indices, s and f of squares
-
-abbrev i64 : ℤ → ℤ
-i64 z = toZ w64 (ofZ w64 z)
 
 difference-fits : (e a : ℤ) → natAbs e ≤ 2 ^ 30 → natAbs a ≤ 2 ^ 30 → SFits w64 (i64 e -ℤ i64 a)
 difference-fits e a h k = fits (sized e h ∷ sized a k ∷ []) (search code depth 40) tt
@@ -99,8 +96,14 @@ module _ (v : Numbers) where
 
 -- ---- the needs
 
+cast-first : tie.Need-cast-first
+cast-first c = omega (arith, c .before .pre .end)
+
 add-end : tie.Need-add-end
 add-end c = search needs
+
+cast-end : tie.Need-cast-end
+cast-end c = omega (arith, c .before .before .pre .end)
 
 cast-n : tie.Need-cast-n
 cast-n c = search needs
@@ -129,7 +132,7 @@ module _ (s : tie.Start) where
 
 module _ (c : tie.After-index-sum2) where
   abbrev start : tie.Start
-  start = c .before .before .before .before .before
+  start = c .before .before .before .before .before .before
 
   end-size : natAbs (c .before .index-sum .result) ≤ 2 ^ 20
   end-size = index-sized (run start .first + run start .length) (start .pre .end) (c .before .index-sum .ensures)
@@ -170,17 +173,17 @@ sub-x c = difference-fits (c .before .index-sum .result) (c .index-sum2 .result)
 sub-xx : tie.Need-sub-xx
 sub-xx c = difference-fits (c .before .square-sum .result) (c .square-sum2 .result) (end-square c) (first-square c)
 
-mul-t7 : tie.Need-mul-t7
-mul-t7 c = ny-fits (numbers c)
-
-mul-t8 : tie.Need-mul-t8
-mul-t8 c = xy-fits (numbers c)
-
 mul-t9 : tie.Need-mul-t9
 mul-t9 c = ny-fits (numbers c)
 
 mul-t10 : tie.Need-mul-t10
-mul-t10 c = yy-fits (numbers c)
+mul-t10 c = xy-fits (numbers c)
+
+mul-t11 : tie.Need-mul-t11
+mul-t11 c = ny-fits (numbers c)
+
+mul-t12 : tie.Need-mul-t12
+mul-t12 c = yy-fits (numbers c)
 
 returns : tie.Need-returns
 unfolding cellsOf
@@ -191,4 +194,4 @@ returns c =
     ∙ sym (run-closed (r .row) (r .first) (r .length))
 
 pub run-sums-spec : {M : Type 1} → statement M
-run-sums-spec = tie.close (tie.spec add-end cast-n cast-y index-sum-requires index-sum-requires-2 sub-x square-sum-requires square-sum-requires-2 sub-xx mul-t7 mul-t8 mul-t9 mul-t10 returns)
+run-sums-spec = tie.close (tie.spec cast-first add-end cast-end cast-n cast-y index-sum-requires index-sum-requires-2 sub-x square-sum-requires square-sum-requires-2 sub-xx mul-t9 mul-t10 mul-t11 mul-t12 returns)

@@ -1,4 +1,4 @@
--- Sums below k, by which a run's sums are computed.
+-- Document 01, "Cells": the sums of the column indices below k and of their squares, by which the sums of x and of x² over a run are computed.
 use Prim.Native.Nat.{ℕ, zero, suc, _+_, _*_}
 
 -- 0 + 1 + .. + (k − 1).

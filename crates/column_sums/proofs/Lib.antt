@@ -1,0 +1,3 @@
+mod ClosedFormulas
+pub mod SumBounds
+mod WorkedSums
