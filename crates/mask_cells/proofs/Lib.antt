@@ -1,0 +1,17 @@
+pub mod Positions
+pub mod Those
+pub mod RunSteps
+pub mod NextRuns
+pub mod WordCells
+pub mod RowSums
+mod RunsFrom
+mod RunsCells
+mod NoneTouch
+mod EachLongest
+mod OnlyLongest
+mod RunsAccepted
+mod WrittenRegion
+mod MaskRefusals
+mod OnesCounted
+mod MaskLimits
+mod WorkedMasks

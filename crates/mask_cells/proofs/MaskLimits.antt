@@ -1,0 +1,126 @@
+-- Both sides of each limit of the refusals 31 and 8, for the sums and for the writer, and the order of the two.
+use Prim.Native.Nat.{ℕ}
+use mathlib.Core.Path.{_≡_, refl, sym, _∙_}
+use mathlib.Core.Bool.{true, false}
+use mathlib.Core.List.{List, [], _∷_, _++_}
+use lib.IntN.{pos}
+use lib.ListN.{length, replicate, length-replicate}
+use Rattle.word_runs.specs.Bits.{firstWhere}
+use Rattle.cells.specs.declared.Run.{Run}
+use Rattle.cells.specs.CellSums.{cellsFrom}
+use Rattle.cells.specs.RegionCall.{tooMany}
+use Rattle.mask_cells.specs.MaskCells.{isMarked, rowsFrom, those, beginsRun, endColumn, longestRuns}
+use Rattle.mask_cells.specs.MaskCalls.{wrongLength, maskSumsCall, MaskRunsOutcome, tooManyFor, maskRunsCall}
+
+-- ---- 31
+
+-- Both calls refuse every mask of n words with 31, whatever its words are and whatever the caller's list holds: so 31 comes before 8.
+record Refused (n : ℕ) : Type 0 where
+  sums : (ws : List ℕ) → length ws ≡ n → maskSumsCall ws ≡ record { number = 31; sums = record { count = pos 0; x = pos 0; y = pos 0; xx = pos 0; xy = pos 0; yy = pos 0 } }
+  runs : (ws : List ℕ) → length ws ≡ n → (before : List Run) → maskRunsCall ws before ≡ record { number = 31; index = 0; count = 0; list = before }
+
+-- The sums of a mask of n words are never refused, and the writer is not refused with 31.
+record Taken (n : ℕ) : Type 0 where
+  sums : (ws : List ℕ) → length ws ≡ n → maskSumsCall ws .number ≡ 0
+  runs : (ws : List ℕ) → length ws ≡ n → (before : List Run) → tooManyFor before (longestRuns ws) ≡ false → maskRunsCall ws before .number ≡ 0
+
+-- The test for 31 looks at the number of words alone.
+by-length : (ws us : List ℕ) → length ws ≡ length us → wrongLength ws ≡ wrongLength us
+unfolding wrongLength
+by-length ws us e = rw e
+
+-- So one mask of n words tells what holds of all.
+refused-as : (n : ℕ) → wrongLength (replicate n 0) ≡ true → Refused n
+unfolding maskSumsCall maskRunsCall
+refused-as n e =
+    let same : (ws : List ℕ) → length ws ≡ n → wrongLength ws ≡ true = λ ws l. by-length ws (replicate n 0) (l ∙ sym (length-replicate n 0)) ∙ e in
+    record { sums = λ ws l. rw (same ws l); runs = λ ws l before. rw (same ws l) }
+
+taken-as : (n : ℕ) → wrongLength (replicate n 0) ≡ false → Taken n
+unfolding maskSumsCall maskRunsCall
+taken-as n e =
+    let same : (ws : List ℕ) → length ws ≡ n → wrongLength ws ≡ false = λ ws l. by-length ws (replicate n 0) (l ∙ sym (length-replicate n 0)) ∙ e in
+    record { sums = λ ws l. rw (same ws l); runs = λ ws l before few. rw (same ws l, few) }
+
+record Lengths : Type 0 where
+  no-rows : Taken 0
+  one-word : Refused 1
+  half-row : Refused 8
+  -- one row, and a word less or more
+  row-less : Refused 15
+  row : Taken 16
+  row-more : Refused 17
+  half-row-more : Refused 24
+  two-rows : Taken 32
+  -- a mask of nine rows can have more than 4,096 runs, and has its sums
+  nine-rows : Taken 144
+  -- 1,024 rows, a word less or more, and a row more
+  grid-less : Refused 16_383
+  grid : Taken 16_384
+  grid-more : Refused 16_385
+  row-too-many : Refused 16_400
+
+lengths : Lengths
+unfolding wrongLength
+lengths =
+    record {
+      no-rows = taken-as 0 refl;
+      one-word = refused-as 1 refl;
+      half-row = refused-as 8 refl;
+      row-less = refused-as 15 refl;
+      row = taken-as 16 refl;
+      row-more = refused-as 17 refl;
+      half-row-more = refused-as 24 refl;
+      two-rows = taken-as 32 refl;
+      nine-rows = taken-as 144 refl;
+      grid-less = refused-as 16_383 refl;
+      grid = taken-as 16_384 refl;
+      grid-more = refused-as 16_385 refl;
+      row-too-many = refused-as 16_400 refl;
+    }
+
+-- ---- 8
+
+-- Every other cell of eight rows: 4,096 runs.
+abbrev eightRows : List ℕ
+eightRows = replicate 128 0x5555_5555_5555_5555
+
+-- One cell more in the row above: 4,097 runs.
+abbrev nineRows : List ℕ
+nineRows = eightRows ++ 1 ∷ replicate 15 0
+
+-- A list of the caller's with room for n runs.
+abbrev room : ℕ → List Run
+room n = replicate n (record { row = 7; first = 7; length = 7 })
+
+-- The number that the writer answers, and how many it counts.
+abbrev answer : MaskRunsOutcome → ℕ × ℕ
+answer o = (o .number, o .count)
+
+record Eight : Type 0 where
+  -- as many runs as the list holds, and room for one less
+  as-many : answer (maskRunsCall eightRows (room 4096)) ≡ (0, 4096)
+  one-less : maskRunsCall eightRows (room 4095) ≡ record { number = 8; index = 0; count = 0; list = room 4095 }
+  -- 4,097 runs, in a list that would hold them
+  too-many : maskRunsCall nineRows (room 4097) ≡ record { number = 8; index = 0; count = 0; list = room 4097 }
+  far-more-room : maskRunsCall nineRows (room 5000) ≡ record { number = 8; index = 0; count = 0; list = room 5000 }
+  -- no run needs no room
+  empty-mask : maskRunsCall [] [] ≡ record { number = 0; index = 0; count = 0; list = [] }
+  unmarked-row : maskRunsCall (replicate 16 0) [] ≡ record { number = 0; index = 0; count = 0; list = [] }
+
+eight : Eight
+unfolding firstWhere cellsFrom tooMany isMarked rowsFrom those beginsRun endColumn longestRuns wrongLength tooManyFor maskRunsCall
+eight = record { as-many = refl; one-less = refl; too-many = refl; far-more-room = refl; empty-mask = refl; unmarked-row = refl }
+
+-- ---- the order 31, 8
+
+-- A word more than whole rows have, to masks of too many runs for the list, and of over 4,096.
+record Order : Type 0 where
+  no-room : maskRunsCall (1 ∷ replicate 16 0) [] ≡ record { number = 31; index = 0; count = 0; list = [] }
+  too-many-runs : maskRunsCall (nineRows ++ 0 ∷ []) (room 2) ≡ record { number = 31; index = 0; count = 0; list = room 2 }
+  -- the sums are not refused with 8
+  sums : maskSumsCall nineRows .number ≡ 0
+
+order : Order
+unfolding firstWhere cellsFrom tooMany isMarked rowsFrom those beginsRun endColumn longestRuns wrongLength maskSumsCall tooManyFor maskRunsCall
+order = record { no-room = refl; too-many-runs = refl; sums = refl }

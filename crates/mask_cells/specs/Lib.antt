@@ -1,0 +1,4 @@
+pub mod MaskCells
+pub mod MaskCalls
+pub mod MaskLaws
+pub mod private

@@ -1,0 +1,50 @@
+-- Document 02, CR 1: the outcomes of the two calls on a mask, its sums and the writer of its longest runs.
+use Prim.Native.Nat.{ℕ, _/_, _%_}
+use mathlib.Core.Bool.{Bool, not, _||_, cond}
+use mathlib.Core.List.{List, _++_}
+use lib.Dec.{ltb, eqb}
+use lib.ListN.{length, drop}
+use Rattle.centroid.specs.declared.CellSums.{CellSums}
+use Rattle.cells.specs.declared.Run.{Run}
+use Rattle.cells.specs.CellSums.{zeros, sumsOver}
+use Rattle.cells.specs.RegionCall.{tooMany}
+use Rattle.mask_cells.specs.MaskCells.{markedCells, longestRuns}
+
+-- Refusal 31: the words are no whole number of rows, or are over 1,024 rows.
+unfoldable pub wrongLength : List ℕ → Bool
+wrongLength ws = not (eqb (length ws % 16) 0) || ltb 1024 (length ws / 16)
+
+-- ---- the sums
+
+-- Number 0 with the sums where the call is accepted, else the number of its refusal and zeros.
+pub record MaskSumsOutcome : Type 0 where
+  pub number : ℕ
+  pub sums : CellSums
+
+unfoldable pub maskSumsCall : List ℕ → MaskSumsOutcome
+maskSumsCall ws = cond (wrongLength ws) (record { number = 31; sums = zeros }) (record { number = 0; sums = sumsOver (markedCells ws) })
+
+-- ---- the writer
+
+-- The number of the refusal or 0, the index that document 01 gives with 8, how many runs were written, and the caller's whole list afterwards.
+pub record MaskRunsOutcome : Type 0 where
+  pub number : ℕ
+  pub index : ℕ
+  pub count : ℕ
+  pub list : List Run
+
+-- A refusal writes nothing: no run is counted, and the list is as it was.
+abbrev pub nothingWritten : ℕ → List Run → MaskRunsOutcome
+nothingWritten n before = record { number = n; index = 0; count = 0; list = before }
+
+-- Refusal 8: more than 4,096 runs, or more than the caller's list holds.
+unfoldable pub tooManyFor : List Run → List Run → Bool
+tooManyFor before rs = tooMany rs || ltb (length before) (length rs)
+
+-- Order: 31, 8. The runs fill the caller's list from its start, and what lies behind them stays.
+unfoldable pub maskRunsCall : List ℕ → List Run → MaskRunsOutcome
+maskRunsCall ws before =
+    let rs = longestRuns ws in
+    cond (wrongLength ws) (nothingWritten 31 before)
+    (cond (tooManyFor before rs) (nothingWritten 8 before)
+    (record { number = 0; index = 0; count = length rs; list = rs ++ drop (length rs) before }))
