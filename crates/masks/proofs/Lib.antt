@@ -1,0 +1,5 @@
+mod Lengths
+mod NextRun
+mod RunsLeft
+mod RunsOfWord
+mod Written

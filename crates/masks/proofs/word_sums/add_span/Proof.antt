@@ -1,0 +1,101 @@
+-- `masks::word_sums::add_span` meets its contract: every step fits.
+use mathlib.Core.Path.{_≡_, _∙_}
+use mathlib.Core.List.{List, [], _∷_}
+use Prim.Native.Nat.{_≤_, _^_}
+use native.Mathlib.Omega.{arith}
+use lib.IntN.{ℤ, natAbs, _+ℤ_, _-ℤ_}
+use mir.Syntax.{w64}
+use mir.Val.{SFits}
+use borrow.Author.Needs.{needs}
+use Rattle.integers.proofs.SignedCode.{code}
+use Rattle.integers.proofs.SizedNumbers.{i64, Sized, sized, fits, is-plain}
+use Rattle.column_sums.proofs.SumBounds.{index-sized, square-sized}
+use Rattle.masks.proofs.word_sums.add_span.Statement.{statement}
+use Rattle.masks.proofs.word_sums.add_span.Tie as tie
+
+-- A sum, and two others whose difference is added to it.
+record Numbers : Type 0 where
+  s : ℤ
+  e : ℤ
+  a : ℤ
+  s-small : natAbs s ≤ 2 ^ 30
+  e-small : natAbs e ≤ 2 ^ 30
+  a-small : natAbs a ≤ 2 ^ 30
+
+module _ (v : Numbers) where
+  abbrev operands : List Sized
+  operands = sized (v .s) (v .s-small) ∷ sized (v .e) (v .e-small) ∷ sized (v .a) (v .a-small) ∷ []
+
+  abbrev difference : ℤ
+  difference = i64 (v .e) -ℤ i64 (v .a)
+
+  difference-fits : SFits w64 difference
+  difference-fits = fits operands (search code depth 40) tt
+
+  sum-fits : SFits w64 (i64 (v .s) +ℤ i64 difference)
+  sum-fits = fits operands (search code depth 40) tt
+
+  sum-is : i64 (i64 (v .s) +ℤ i64 difference) ≡ v .s +ℤ (v .e -ℤ v .a)
+  sum-is = is-plain operands (search code depth 40) tt
+
+-- ---- the needs
+
+module _ (c : tie.After-index-sum2) where
+  abbrev start : tie.Start
+  start = c .before .before
+
+  -- The sum of x, and the sums of indices below the end and below the first column.
+  abbrev indices : Numbers
+  indices =
+      record {
+        s = start .args .sums .x;
+        e = c .before .index-sum .result;
+        a = c .index-sum2 .result;
+        s-small = omega (arith, start .pre .x);
+        e-small = omega (arith, index-sized (start .args .end) (start .pre .end) (c .before .index-sum .ensures));
+        a-small = omega (arith, index-sized (start .args .first) (start .pre .first) (c .index-sum2 .ensures));
+      }
+
+module _ (c : tie.After-square-sum2) where
+  abbrev mid : tie.After-index-sum2
+  mid = c .before .before
+
+  -- The sum of x², and the sums of squares below the end and below the first column.
+  abbrev squares : Numbers
+  squares =
+      record {
+        s = start mid .args .sums .xx;
+        e = c .before .square-sum .result;
+        a = c .square-sum2 .result;
+        s-small = omega (arith, start mid .pre .xx);
+        e-small = square-sized (start mid .args .end) (start mid .pre .end) (c .before .square-sum .ensures);
+        a-small = square-sized (start mid .args .first) (start mid .pre .first) (c .square-sum2 .ensures);
+      }
+
+returns : tie.Need-returns
+returns c =
+    let both = c .before .before .before .before in
+    let half = mid both in
+    let entry = start half in
+    let e = half .before .index-sum .ensures in
+    let a = half .index-sum2 .ensures in
+    let f = both .before .square-sum .ensures in
+    let b = both .square-sum2 .ensures in
+    (λ i. record { x = sum-is (indices half) i; xx = sum-is (squares both) i })
+    ∙ (λ i. record { x = entry .args .sums .x +ℤ (e i -ℤ a i); xx = entry .args .sums .xx +ℤ (f i -ℤ b i) })
+
+pub add-span-spec : {M : Type 1} → statement M
+add-span-spec =
+    tie.close
+    (tie.spec
+    (λ c. record { fits = omega (arith, c .pre .end) })
+    (λ c. record { fits = omega (arith, c .pre .first) })
+    (λ c κs. search needs)
+    (λ c κs. search needs)
+    (λ c. difference-fits (indices c))
+    (λ c κs. search needs)
+    (λ c κs. search needs)
+    (λ c. difference-fits (squares c))
+    (λ c. sum-fits (indices (mid (c .before .before))))
+    (λ c. sum-fits (squares (c .before .before .before .before)))
+    returns)

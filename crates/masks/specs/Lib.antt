@@ -1,0 +1,2 @@
+pub mod MaskAnswers
+pub mod private
