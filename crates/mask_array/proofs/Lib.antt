@@ -1,0 +1,2 @@
+mod ArrayParts
+mod ReplyValues
