@@ -1,15 +1,19 @@
 // Calls for programs in other languages: the static library defines each under its plain name. A number passes as itself, a list or a buffer as a pointer and then a
-// length. Each answers 0 or the number of a refusal, with zeros for totals, centre or sums, or 100 where the buffer is too short. Thin: the calls on
-// outlines hand on to outline_replies; mavrihkel_region_sums asks cells and has region_replies write the answer.
+// length. Each answers 0 or the number of a refusal, with zeros for totals, centre, sums or count, or 100 where the buffer is too short. Thin: the calls on
+// outlines hand on to outline_replies, and mavrihkel_mask_sums to mask_replies; mavrihkel_region_sums asks cells and has region_replies write the answer,
+// and mavrihkel_mask_runs asks masks and has mask_replies write it.
 ghost use mathlib.Core.Path.{_≡_};
 ghost use Rattle.outline.specs.ListCall.{listCall};
 ghost use Rattle.outline.specs.MapCall.{mapCall};
 ghost use Rattle.centroid.specs.Centroid.{outlineCentroidCall};
 ghost use Rattle.outline_replies.specs.OutlineReply.{totalsReply, centreReply};
 ghost use Rattle.region_replies.specs.RegionReply.{RegionReplies};
+ghost use Rattle.mask_cells.specs.MaskCalls.{maskSumsCall, maskRunsCall};
+ghost use Rattle.mask_replies.specs.MaskReply.{maskSumsReply, maskRunsReply};
 use cells::Run;
 use outline::AffineMap;
 use outline::Totals;
+use replies::SHORT_BUFFER;
 
 // The call on a whole outline, x and y in turn: 0, 1 or 2, and the six totals.
 #[no_mangle]
@@ -81,4 +85,24 @@ pub extern "C" fn mavrihkel_region_sums(runs: &[Run], out: &mut [i64]) -> u32
 {
     let answer = cells::region_sums(runs);
     region_replies::region_reply(answer, out)
+}
+
+// The call for the sums of a mask: 0 or 31, and the six sums.
+#[no_mangle]
+pub extern "C" fn mavrihkel_mask_sums(words: &[u64], out: &mut [i64]) -> u32
+    ensures { λ r. ⌜ record { number = r; buffer = now (out .exit) } ≡ maskSumsReply (maskSumsCall (now (words .entry))) (now (out .entry)) ⌝ }
+{
+    mask_replies::mask_sums_reply(words, out)
+}
+
+// The call for the runs of a mask, into the caller's list: 0, 8 or 31, and how many runs were written. Where the buffer is too short nothing is written at all.
+#[no_mangle]
+pub extern "C" fn mavrihkel_mask_runs(words: &[u64], runs: &mut [Run], out: &mut [i64]) -> u32
+    ensures { λ r. ⌜ record { number = r; runs = now (runs .exit); buffer = now (out .exit) } ≡ maskRunsReply (maskRunsCall (now (words .entry)) (now (runs .entry))) (now (runs .entry)) (now (out .entry)) ⌝ }
+{
+    if out.len() < 1 {
+        return SHORT_BUFFER;
+    }
+    let answer = masks::mask_runs(words, runs);
+    mask_replies::mask_runs_reply(answer, out)
 }

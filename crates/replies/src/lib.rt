@@ -3,7 +3,7 @@ ghost use mathlib.Core.Path.{_≡_};
 ghost use Rattle.replies.specs.Reply.{reply};
 
 // The answer where the buffer is too short.
-const SHORT_BUFFER: u32 = 100;
+pub const SHORT_BUFFER: u32 = 100;
 
 // Copies the values to the front of the buffer and answers the number, or answers that the buffer is too short.
 pub fn put_values(values: &[i64], number: u32, out: &mut [i64]) -> u32

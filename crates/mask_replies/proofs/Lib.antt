@@ -1,0 +1,4 @@
+pub mod CountLaw
+pub mod RunsReplyCases
+pub mod Numbers
+mod WorkedReplies
