@@ -1,18 +1,27 @@
-"""The rows of "Plots worked by hand" in document 01 that carry no ✱, one line each.
+"""The rows of "Plots worked by hand" in document 01 that carry no ✱, then masks of document 02, one line each.
 
 Fields are separated by tabs: label, what was asked, refusal number (0 if accepted), values.
 """
 from figures import CLOSED_WALK, FRESH_WALK, NEW_SHEET, ZERO_TOTALS
 from figures import Run, begin, end, list_call, point, region_sums
 from inputs import SQUARE
+from masks import MOST_WORDS, WORDS_IN_A_ROW, mask_runs, mask_sums
 from moves import AffineMap, map_call
 
 DOUBLING = AffineMap(a=2, b=0, g=0, h=2, e=0, f=0)
 
+# Row 0: bits 0 and 63 of word 0, bits 0 and 1 of word 1, bit 63 of word 15.  Row 1: bit 0 of word 0.
+FOUR_RUNS = [1 << 63 | 1, 3, *[0] * 13, 1 << 63, 1, *[0] * 15]
+# Every other cell of eight rows: 4,096 runs; then one marked cell more, in row 8.
+MOST_MASK_RUNS = [0x5555555555555555] * (8 * WORDS_IN_A_ROW)
+ONE_RUN_MORE = MOST_MASK_RUNS + [1, *[0] * 15]
+# What every record of a caller's list is before the writer is called.
+RECORD_BEFORE = Run(row=7, first=8, length=9)
+
 
 def numbers_of(points):
-    """x and y in turn."""
-    return [coordinate for place in points for coordinate in place]
+    """The numbers of each in turn: x and y of points; row, first column and length of runs."""
+    return [number for place in points for number in place]
 
 
 def walked(points, walk=CLOSED_WALK):
@@ -69,6 +78,47 @@ def walk_row(count, a2):
     return ["walk", count, a2, number, *totals, sheet.count]
 
 
+def all_ones(words):
+    """A mask of so many words, in which every bit is a one."""
+    return [2 ** 64 - 1] * words
+
+
+def mask_sums_row(words):
+    """A mask.  Asked: its number of words.  Answered: number, six sums."""
+    number, sums = mask_sums(words)
+    return ["mask-sums", len(words), number, *sums]
+
+
+def mask_runs_row(words, records):
+    """The writer and a short list.  Asked: words, records of the list.
+    Answered: number, how many were written, every record of the list afterwards."""
+    number, count, afterwards = mask_runs(words, [RECORD_BEFORE] * records)
+    return ["mask-runs", len(words), records, number, count, *numbers_of(afterwards)]
+
+
+def mask_last_row(words, records):
+    """The writer and a long list.  Asked: words, records of the list.
+    Answered: number, how many were written, the last two records of the list afterwards."""
+    number, count, afterwards = mask_runs(words, [RECORD_BEFORE] * records)
+    return ["mask-last", len(words), records, number, count, *numbers_of(afterwards[-2:])]
+
+
+def mask_rows():
+    """The fields of the masks' rows.  No two masks have the same number of words."""
+    for words in (FOUR_RUNS, MOST_MASK_RUNS, ONE_RUN_MORE, [], all_ones(MOST_WORDS),
+                  all_ones(15), all_ones(17), all_ones(MOST_WORDS + 16)):
+        yield mask_sums_row(words)
+    for records in (3, 4, 5):
+        yield mask_runs_row(FOUR_RUNS, records)
+    yield mask_runs_row([], 0)
+    yield mask_runs_row(all_ones(15), 1)
+    yield mask_runs_row(all_ones(17), 0)
+    yield mask_last_row(MOST_MASK_RUNS, 4097)
+    yield mask_last_row(ONE_RUN_MORE, 4097)
+    yield mask_last_row(all_ones(MOST_WORDS), 1025)
+    yield mask_last_row(all_ones(MOST_WORDS + 16), 1025)
+
+
 def rows():
     """The fields of every row."""
     yield limit_row(2000)
@@ -83,6 +133,7 @@ def rows():
     yield run_row(1023, 2)
     yield walk_row(3, 24_000_000)
     yield walk_row(3, 24_000_001)
+    yield from mask_rows()
 
 
 if __name__ == "__main__":

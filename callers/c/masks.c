@@ -1,0 +1,53 @@
+/*
+ * The calls on masks, for second/compare_masks.py: reads cases from standard input to its end and prints two lines for each.
+ *
+ * A case is, without anything between them: two 64-bit numbers, the lengths of the words and of the list; the words and one word more; the records of the list and one record more. Neither of
+ * these two is the calls' to read or to write. The lines are the number and the six sums; the number, how many runs were written, and every record afterwards, that behind the list's end too.
+ * Ends with 1 if the input breaks off within a case.
+ */
+#include <inttypes.h>
+#include <stdio.h>
+#include <stdlib.h>
+
+#include "mavrihkel.h"
+
+/* As many entries as are wanted, and one more, from standard input. */
+static void *read_entries(size_t size, uint64_t count)
+{
+    void *entries = malloc((count + 1) * size);
+    if (entries == NULL || fread(entries, size, count + 1, stdin) != count + 1) exit(1);
+    return entries;
+}
+
+/* The sums of a mask as a line. */
+static void print_sums(const uint64_t *words, size_t length)
+{
+    int64_t out[MAVRIHKEL_SUMS] = {0};
+    printf("%" PRIu32, mavrihkel_mask_sums(words, length, out, MAVRIHKEL_SUMS));
+    for (size_t k = 0; k < MAVRIHKEL_SUMS; k++) printf(" %" PRId64, out[k]);
+    putchar('\n');
+}
+
+/* The runs of a mask and the list afterwards as a line. */
+static void print_runs(const uint64_t *words, size_t length, struct mavrihkel_run *runs, size_t runs_length)
+{
+    int64_t count = 0;
+    uint32_t number = mavrihkel_mask_runs(words, length, runs, runs_length, &count, MAVRIHKEL_WRITTEN);
+    printf("%" PRIu32 " %" PRId64, number, count);
+    for (size_t k = 0; k <= runs_length; k++) printf(" %" PRIu32 " %" PRIu32 " %" PRIu32, runs[k].row, runs[k].first, runs[k].length);
+    putchar('\n');
+}
+
+int main(void)
+{
+    uint64_t lengths[2];
+    while (fread(lengths, sizeof lengths[0], 2, stdin) == 2) {
+        uint64_t *words = read_entries(sizeof *words, lengths[0]);
+        struct mavrihkel_run *runs = read_entries(sizeof *runs, lengths[1]);
+        print_sums(words, lengths[0]);
+        print_runs(words, lengths[0], runs, lengths[1]);
+        free(words);
+        free(runs);
+    }
+    return 0;
+}
