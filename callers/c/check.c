@@ -1,6 +1,7 @@
-/* Document 01's rectangle, unit square and run through mavrihkel.h, each refusal once, and a buffer that is too short. Ends with 1 if an answer is wrong. */
+/* Document 01's rectangle, unit square and run and masks of document 02 through mavrihkel.h, each refusal once, and a buffer that is too short. Ends with 1 if an answer is wrong. */
 #include <inttypes.h>
 #include <stdio.h>
+#include <string.h>
 
 #include "mavrihkel.h"
 
@@ -33,6 +34,96 @@ static void expect(const char *what, uint32_t number, uint32_t wanted, const int
 
 #define LENGTH(list) (sizeof(list) / sizeof((list)[0]))
 #define TOTALS(t) (t)[0], (t)[1], (t)[2], (t)[3], (t)[4], (t)[5]
+
+/* ---- masks */
+
+#define MOST_RUNS 4096
+#define MOST_WORDS 16384
+
+static const struct mavrihkel_run before = {7, 8, 9};
+static struct mavrihkel_run list[MOST_RUNS + 1];
+
+/* Clears the list before a call. */
+static struct mavrihkel_run *fresh_list(void)
+{
+    for (size_t k = 0; k < LENGTH(list); k++) list[k] = before;
+    return list;
+}
+
+static int same_run(struct mavrihkel_run run, struct mavrihkel_run wanted)
+{
+    return run.row == wanted.row && run.first == wanted.first && run.length == wanted.length;
+}
+
+/* After a call, the record before this index is the wanted one, and every record from it on is as it was. */
+static int list_is(size_t count, struct mavrihkel_run last)
+{
+    int right = count == 0 || same_run(list[count - 1], last);
+    for (size_t k = count; k < LENGTH(list); k++) right = right && same_run(list[k], before);
+    return right;
+}
+
+static void expect_list(int right)
+{
+    if (!right) puts("the list is WRONG");
+    wrong = wrong || !right;
+}
+
+/* The sums of a mask. */
+static void expect_sums(const char *what, const uint64_t *words, size_t length, uint32_t wanted, const int64_t *sums)
+{
+    expect(what, mavrihkel_mask_sums(words, length, fresh(), ROOM), wanted, sums, MAVRIHKEL_SUMS);
+}
+
+/* The writer with a list of so many records: the number, how many it wrote, the last of them; all behind them is as it was. The region that they make up has the mask's sums. */
+static void expect_runs(const char *what, const uint64_t *words, size_t length, size_t held, uint32_t wanted, int64_t count, struct mavrihkel_run last)
+{
+    int64_t sums[MAVRIHKEL_REGION] = {0}, marked[MAVRIHKEL_SUMS];
+    expect(what, mavrihkel_mask_runs(words, length, fresh_list(), held, fresh(), ROOM), wanted, &count, MAVRIHKEL_WRITTEN);
+    expect_list(list_is(count, last));
+    if (wanted == 0) {
+        mavrihkel_mask_sums(words, length, marked, MAVRIHKEL_SUMS);
+        expect_list(mavrihkel_region_sums(list, count, sums, MAVRIHKEL_REGION) == 0 && memcmp(sums, marked, sizeof marked) == 0);
+    }
+}
+
+static void check_masks(void)
+{
+    /* Row 0: bits 0 and 63 of word 0, bits 0 and 1 of word 1, bit 63 of word 15. Row 1: bit 0 of word 0. */
+    static const uint64_t four_runs[32] = {[0] = UINT64_C(1) << 63 | 1, [1] = 3, [15] = UINT64_C(1) << 63, [16] = 1};
+    /* Every other cell of eight rows, 4,096 runs; with the ninth row one more. */
+    static uint64_t alternating[9 * 16], all_ones[MOST_WORDS + 16];
+    const int64_t four_runs_sums[] = {6, 1215, 1, 1058819, 0, 1};
+    const int64_t alternating_sums[] = {4097, 2093056, 14344, 1427464192, 7325696, 71744};
+    const int64_t grid_sums[] = {1048576, 536346624, 536346624, INT64_C(365967179776), INT64_C(274341298176), INT64_C(365967179776)};
+    const int64_t zeros[MAVRIHKEL_SUMS] = {0};
+    const struct mavrihkel_run last_of_four = {1, 0, 1}, last_of_most = {7, 1022, 1}, last_of_grid = {1023, 0, 1024};
+    for (size_t k = 0; k < 8 * 16; k++) alternating[k] = UINT64_C(0x5555555555555555);
+    alternating[8 * 16] = 1;
+    memset(all_ones, 255, sizeof all_ones);
+
+    expect_sums("mask", four_runs, LENGTH(four_runs), 0, four_runs_sums);
+    expect_runs("its runs, room for five", four_runs, LENGTH(four_runs), 5, 0, 4, last_of_four);
+    expect_runs("room for four", four_runs, LENGTH(four_runs), 4, 0, 4, last_of_four);
+    expect_runs("room for three", four_runs, LENGTH(four_runs), 3, 8, 0, before);
+    expect_runs("4,096 runs of a mask", alternating, 8 * 16, LENGTH(list), 0, MOST_RUNS, last_of_most);
+    expect_runs("4,097 runs of a mask", alternating, LENGTH(alternating), LENGTH(list), 8, 0, before);
+    expect_sums("their sums", alternating, LENGTH(alternating), 0, alternating_sums);
+    expect_sums("no words", all_ones, 0, 0, zeros);
+    expect_runs("no words", all_ones, 0, 0, 0, 0, before);
+    expect_sums("full grid", all_ones, MOST_WORDS, 0, grid_sums);
+    expect_runs("full grid", all_ones, MOST_WORDS, LENGTH(list), 0, 1024, last_of_grid);
+    for (size_t k = 0; k < 4; k++) {
+        const size_t wrong_lengths[] = {15, 17, 24, MOST_WORDS + 16};
+        expect_sums("mask of wrong length", all_ones, wrong_lengths[k], 31, zeros);
+        expect_runs("mask of wrong length", all_ones, wrong_lengths[k], k, 31, 0, before);
+    }
+    expect("room for five", mavrihkel_mask_sums(four_runs, LENGTH(four_runs), fresh(), MAVRIHKEL_SUMS - 1), MAVRIHKEL_SHORT_BUFFER, NULL, 0);
+    expect("room for none", mavrihkel_mask_runs(four_runs, LENGTH(four_runs), fresh_list(), LENGTH(list), fresh(), 0), MAVRIHKEL_SHORT_BUFFER, NULL, 0);
+    expect_list(list_is(0, before));
+}
+
+/* ---- all calls */
 
 int main(void)
 {
@@ -80,5 +171,6 @@ int main(void)
     expect("room for five", mavrihkel_map_totals(1, 1, 0, 1, 1, 0, TOTALS(square_totals), fresh(), MAVRIHKEL_TOTALS - 1), MAVRIHKEL_SHORT_BUFFER, NULL, 0);
     expect("room for one", mavrihkel_outline_centroid(TOTALS(square_totals), fresh(), MAVRIHKEL_CENTRE - 1), MAVRIHKEL_SHORT_BUFFER, NULL, 0);
     expect("room for six", mavrihkel_region_sums(sound, 1, fresh(), MAVRIHKEL_REGION - 1), MAVRIHKEL_SHORT_BUFFER, NULL, 0);
+    check_masks();
     return wrong;
 }

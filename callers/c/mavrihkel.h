@@ -1,12 +1,12 @@
 /*
- * The proved calls on outlines and on regions, for C and C++ on x86-64 Linux. Link target/staticlib/libexports.a, which `rt staticlib exports` writes.
+ * The proved calls on outlines, on regions and on masks, for C and C++ on x86-64 Linux. Link target/staticlib/libexports.a, which `rt staticlib exports` writes.
  *
- * Each call answers a number: 0 where it is accepted, else that of document 01's refusal, named at each call, the first that applies in the order given. It writes its values to the front of
- * `out`, zeros with every refusal but for the index of a run, and nothing behind them. Where `out_length` is less than the number of its values, it writes nothing and answers
- * MAVRIHKEL_SHORT_BUFFER. That much is proved of the library, for every list, number and buffer; that these declarations fit it is tested (check.c).
+ * Each call answers a number: 0 where it is accepted, else that of document 01's or 02's refusal, named at each call, the first that applies in the order given. It writes its values to the
+ * front of `out`, zeros with every refusal but for the index of a run, and nothing behind them. Where `out_length` is less than the number of its values, it writes nothing, to no list either, and
+ * answers MAVRIHKEL_SHORT_BUFFER. That much is proved of the library, for every list, number and buffer; that these declarations fit it is tested (check.c, masks.c).
  *
- * What a caller owes: a pointer is aligned and is not NULL, also where the length is 0, and that many entries lie there; the entries of `out` may be written and overlap no list that is
- * handed in. A call keeps no pointer, and no state between calls, so threads may call at once. The list call takes 8 KB of stack.
+ * What a caller owes: a pointer is aligned and is not NULL, also where the length is 0, and that many entries lie there; the entries of `out`, and those of the list that mavrihkel_mask_runs
+ * fills, may be written and overlap no other list. A call keeps no pointer, and no state between calls, so threads may call at once. The list call takes 8 KB of stack.
  *
  * Lengths are in decimetres, x east and y north. The six totals, in this order: A2 (2 x area), X6 and Y6 (6 x the integral of x and of y), XX12 (12 x that of x squared), XY24 (24 x that of x y),
  * YY12 (12 x that of y squared); positive where the outline is walked anticlockwise.
@@ -24,6 +24,8 @@ extern "C" {
 #define MAVRIHKEL_TOTALS 6
 #define MAVRIHKEL_CENTRE 2
 #define MAVRIHKEL_REGION 7
+#define MAVRIHKEL_SUMS 6
+#define MAVRIHKEL_WRITTEN 1
 #define MAVRIHKEL_SHORT_BUFFER 100
 
 /*
@@ -67,6 +69,22 @@ struct mavrihkel_run {
  *   7  a run has a lower row than the run before it, or has the same row and begins before that run ends
  */
 uint32_t mavrihkel_region_sums(const struct mavrihkel_run *runs, size_t runs_length, int64_t *out, size_t out_length);
+
+/*
+ * The sums of the marked cells of a mask: `words` has 16 words for each row, rows 0 upwards; bit i of a row's word w, from the lowest, is column 64 w + i, and a one marks the cell.
+ * `words_length` counts words, and none is legal. Six values: the number of cells; the sums of x, y, x squared, x y and y squared, as above. However many runs the cells make up, they have sums.
+ *   31  the length is no multiple of 16, or is over 16,384 (1,024 rows)
+ */
+uint32_t mavrihkel_mask_sums(const uint64_t *words, size_t words_length, int64_t *out, size_t out_length);
+
+/*
+ * Writes the longest possible runs of a mask's marked cells, in order, to the front of `runs`; a run may go on from word to word, but not from row to row. One value: how many were written.
+ * The records behind them stay as they were. With a refusal none is written, and the value is 0. Where it is accepted, mavrihkel_region_sums of the written runs are the mask's sums.
+ *   31  the length is no multiple of 16, or is over 16,384 (1,024 rows)
+ *   8   there would be more than 4,096 runs, or more than `runs_length`
+ */
+uint32_t mavrihkel_mask_runs(const uint64_t *words, size_t words_length, struct mavrihkel_run *runs, size_t runs_length,
+                             int64_t *out, size_t out_length);
 
 #ifdef __cplusplus
 }

@@ -1,4 +1,4 @@
-//! Safe functions over the proved static library `exports`. The numbers of refusals, the units and the order of the totals are document 01's.
+//! Safe functions over the proved static library `exports`. The numbers of refusals, the units and the order of the totals are document 01's, those of masks document 02's.
 //!
 //! The proofs end at the static library: that the declarations in `linked` fit it is tested (`tests/compare`) and not proved.
 mod refusal;
@@ -103,6 +103,22 @@ mod linked {
             out: *mut i64,
             out_length: usize,
         ) -> u32;
+
+        pub fn mavrihkel_mask_sums(
+            words: *const u64,
+            words_length: usize,
+            out: *mut i64,
+            out_length: usize,
+        ) -> u32;
+
+        pub fn mavrihkel_mask_runs(
+            words: *const u64,
+            words_length: usize,
+            runs: *mut Run,
+            runs_length: usize,
+            out: *mut i64,
+            out_length: usize,
+        ) -> u32;
     }
 }
 
@@ -162,6 +178,27 @@ pub fn region_sums_into(runs: &[Run], out: &mut [i64]) -> u32 {
     unsafe { linked::mavrihkel_region_sums(runs.as_ptr(), runs.len(), out.as_mut_ptr(), out.len()) }
 }
 
+/// Writes the six sums of a mask's marked cells to the first six entries, in the same way.
+pub fn mask_sums_into(words: &[u64], out: &mut [i64]) -> u32 {
+    // Sound, as above.
+    unsafe { linked::mavrihkel_mask_sums(words.as_ptr(), words.len(), out.as_mut_ptr(), out.len()) }
+}
+
+/// Writes a mask's runs to the front of the list, and how many there are to the first entry of `out`, 0 with a refusal. The list stays as it was with a refusal and with `SHORT_BUFFER`.
+pub fn mask_runs_into(words: &[u64], runs: &mut [Run], out: &mut [i64]) -> u32 {
+    // Sound, as above.
+    unsafe {
+        linked::mavrihkel_mask_runs(
+            words.as_ptr(),
+            words.len(),
+            runs.as_mut_ptr(),
+            runs.len(),
+            out.as_mut_ptr(),
+            out.len(),
+        )
+    }
+}
+
 // ---- the same as results
 
 fn totals_or_refusal(number: u32, v: [i64; 6]) -> Result<Totals, Refusal> {
@@ -202,23 +239,48 @@ pub fn outline_centroid(t: Totals) -> Result<Centre, Refusal> {
     }
 }
 
+fn cell_sums(v: [i64; 6]) -> CellSums {
+    let [count, x, y, xx, xy, yy] = v;
+    CellSums {
+        count,
+        x,
+        y,
+        xx,
+        xy,
+        yy,
+    }
+}
+
 /// The six sums of the region that the runs make up.
 pub fn region_sums(runs: &[Run]) -> Result<CellSums, RegionRefusal> {
     let mut v = [0; 7];
     let number = region_sums_into(runs, &mut v);
-    let [count, x, y, xx, xy, yy, index] = v;
+    let [sums @ .., index] = v;
     match number {
-        0 => Ok(CellSums {
-            count,
-            x,
-            y,
-            xx,
-            xy,
-            yy,
-        }),
+        0 => Ok(cell_sums(sums)),
         6 => Err(RegionRefusal::BadRun(index as usize)),
         7 => Err(RegionRefusal::OutOfOrder(index as usize)),
         8 => Err(RegionRefusal::TooManyRuns),
         _ => other_version(number),
+    }
+}
+
+/// The six sums of a mask's marked cells: 16 words a row, rows 0 upwards; bit i of a row's word w, from the lowest, is column 64w + i.
+pub fn mask_sums(words: &[u64]) -> Result<CellSums, Refusal> {
+    let mut v = [0; 6];
+    let number = mask_sums_into(words, &mut v);
+    match Refusal::of(number) {
+        Some(refusal) => Err(refusal),
+        None => Ok(cell_sums(v)),
+    }
+}
+
+/// Writes the longest possible runs of a mask's marked cells to the front of the list, in order, and gives how many there are. The runs behind them stay as they were, and so do all with a refusal.
+pub fn mask_runs(words: &[u64], runs: &mut [Run]) -> Result<usize, Refusal> {
+    let mut v = [0; 1];
+    let number = mask_runs_into(words, runs, &mut v);
+    match Refusal::of(number) {
+        Some(refusal) => Err(refusal),
+        None => Ok(v[0] as usize),
     }
 }

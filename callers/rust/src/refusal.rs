@@ -1,8 +1,8 @@
-//! Why a call is refused: the numbers are document 01's, the words those of the project's table of refusals.
+//! Why a call is refused: the numbers are those of documents 01 and 02, the words those of the project's table of refusals.
 use std::error::Error;
 use std::fmt;
 
-/// Why a call on an outline or its totals is refused; as a number, that of document 01.
+/// Why a call on an outline, its totals or a mask is refused; as a number, that of documents 01 and 02.
 #[derive(Clone, Copy, Debug, PartialEq, Eq)]
 #[repr(u32)]
 pub enum Refusal {
@@ -11,9 +11,15 @@ pub enum Refusal {
     MapOutsideLimits = 3,
     TotalsOutsideBounds = 4,
     MappedOutsideLimits = 5,
+    TooManyRuns = 8,
     CentreOutsideLimits = 11,
     NoArea = 27,
+    WrongMaskLength = 31,
 }
+
+/// The meaning of 8, of the call on runs and of that which writes them.
+const TOO_MANY_RUNS: &str =
+    "there are more than 4,096 runs, or more than the list to be filled holds";
 
 impl Refusal {
     pub fn number(self) -> u32 {
@@ -29,8 +35,10 @@ impl Refusal {
             3 => Some(Refusal::MapOutsideLimits),
             4 => Some(Refusal::TotalsOutsideBounds),
             5 => Some(Refusal::MappedOutsideLimits),
+            8 => Some(Refusal::TooManyRuns),
             11 => Some(Refusal::CentreOutsideLimits),
             27 => Some(Refusal::NoArea),
+            31 => Some(Refusal::WrongMaskLength),
             _ => other_version(number),
         }
     }
@@ -46,10 +54,14 @@ impl Refusal {
             Refusal::MapOutsideLimits => "a number of a map is outside its limits",
             Refusal::TotalsOutsideBounds => "a total handed to a map is larger than any outline's",
             Refusal::MappedOutsideLimits => "a total after the map would pass 10^18 in size",
+            Refusal::TooManyRuns => TOO_MANY_RUNS,
             Refusal::CentreOutsideLimits => {
                 "the totals or sums that a centre is wanted of are outside their limits"
             }
             Refusal::NoArea => "the area is 0, so there is no centre",
+            Refusal::WrongMaskLength => {
+                "the number of a mask's words is no multiple of 16, or is over 16,384 (1,024 rows)"
+            }
         }
     }
 }
@@ -95,7 +107,7 @@ impl RegionRefusal {
             RegionRefusal::OutOfOrder(_) => {
                 "a run has a lower row than the run listed before it, or has the same row and begins before that run ends"
             }
-            RegionRefusal::TooManyRuns => "there are more than 4,096 runs",
+            RegionRefusal::TooManyRuns => TOO_MANY_RUNS,
         }
     }
 }

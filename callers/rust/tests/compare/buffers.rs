@@ -1,7 +1,8 @@
 //! The whole buffer after each call, whatever its length.
 use crate::{affine_map, runs_of, totals};
 use mavrihkel::{
-    map_totals_into, outline_centroid_into, outline_totals_into, region_sums_into, SHORT_BUFFER,
+    map_totals_into, mask_runs_into, mask_sums_into, outline_centroid_into, outline_totals_into,
+    region_sums_into, SHORT_BUFFER,
 };
 
 const UNIT_SQUARE: [i32; 8] = [0, 0, 1, 0, 1, 1, 0, 1];
@@ -66,4 +67,37 @@ fn region_call() {
     leaves_the_rest(call(&[[3, 2, 3], [3, 2, 0]]), 6, &[0, 0, 0, 0, 0, 0, 1]);
     leaves_the_rest(call(&[[3, 2, 3], [3, 4, 1]]), 7, &[0, 0, 0, 0, 0, 0, 1]);
     leaves_the_rest(call(&[[3, 2, 0]; 4097]), 8, &[0; 7]);
+}
+
+#[test]
+fn mask_sums_call() {
+    let call = |words: &[u64]| {
+        let words = words.to_vec();
+        move |out: &mut [i64]| mask_sums_into(&words, out)
+    };
+    leaves_the_rest(call(&[]), 0, &[0; 6]);
+    leaves_the_rest(call(&[6; 16]), 0, &[32, 15408, 0, 10204240, 0, 0]);
+    leaves_the_rest(call(&[6; 15]), 31, &[0; 6]);
+}
+
+/// Where the buffer is too short, the list of runs stays as it was as well.
+#[test]
+fn mask_runs_call() {
+    let call = |words: &[u64], length: usize, written: usize| {
+        let words = words.to_vec();
+        move |out: &mut [i64]| {
+            let before = runs_of(&vec![[7, 8, 9]; length]);
+            let mut list = before.clone();
+            let number = mask_runs_into(&words, &mut list, out);
+            let written = if number == 0 { written } else { 0 };
+            assert_eq!(list[written..], before[written..]);
+            assert!((0..written).all(|k| list[k] == runs_of(&[[0, 64 * k as u32 + 1, 2]])[0]));
+            number
+        }
+    };
+    leaves_the_rest(call(&[], 0, 0), 0, &[0]);
+    leaves_the_rest(call(&[6; 16], 16, 16), 0, &[16]);
+    leaves_the_rest(call(&[6; 16], 20, 16), 0, &[16]);
+    leaves_the_rest(call(&[6; 16], 15, 0), 8, &[0]);
+    leaves_the_rest(call(&[6; 17], 20, 0), 31, &[0]);
 }

@@ -107,3 +107,58 @@ pub fn damaged_region(random: &mut Random, count: usize) -> Vec<[u32; 3]> {
     }
     runs
 }
+
+/// The words of a mask: sparse, dense, at random, at the edges of words, or in stretches of cells.
+pub fn mask(random: &mut Random, rows: usize) -> Vec<u64> {
+    let mut words = vec![0; 16 * rows];
+    let kind = random.between(0, 4);
+    let stretches = rows as i64 * random.one_of(&[1, 3]);
+    match kind {
+        0 | 1 => (0..stretches).for_each(|_| mark(random, &mut words, 1)),
+        2 => words.fill_with(|| random.next()),
+        3 => words.fill_with(|| {
+            random.one_of(&[
+                0,
+                u64::MAX,
+                1,
+                1 << 63,
+                1 << 63 | 1,
+                u64::MAX - 1,
+                u64::MAX >> 1,
+            ])
+        }),
+        _ => (0..stretches).for_each(|_| {
+            let longest = random.one_of(&[2, 65, 1024]);
+            mark(random, &mut words, longest);
+        }),
+    }
+    if kind == 1 {
+        words.iter_mut().for_each(|word| *word = !*word);
+    }
+    words
+}
+
+/// Marks a stretch of cells in one row, from any column on: as many as the longest at most, and no further than the row goes.
+fn mark(random: &mut Random, words: &mut [u64], longest: i64) {
+    let row = random.between(0, words.len() as i64 / 16 - 1) as usize;
+    let first = random.between(0, 1023);
+    let end = (first + random.between(1, longest)).min(1024);
+    for column in first as usize..end as usize {
+        words[16 * row + column / 64] |= 1 << (column % 64);
+    }
+}
+
+/// A mask of just so many runs, each of one cell in an even column. `count` is at most 512 for each row.
+pub fn mask_of_runs(random: &mut Random, rows: usize, count: usize) -> Vec<u64> {
+    let mut words = vec![0; 16 * rows];
+    let mut left = count;
+    while left > 0 {
+        let cell = 2 * random.between(0, 512 * rows as i64 - 1) as usize;
+        let bit = 1 << (cell % 64);
+        if words[cell / 64] & bit == 0 {
+            words[cell / 64] |= bit;
+            left -= 1;
+        }
+    }
+    words
+}

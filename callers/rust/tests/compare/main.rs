@@ -1,9 +1,10 @@
-//! The static library beside an independent implementation of document 01, on seeded inputs: long and short, valid and damaged.
+//! The static library beside an independent implementation of document 01 and of document 02's masks, on seeded inputs: long and short, valid and damaged.
 mod buffers;
 mod centres;
 mod inputs;
 mod lists;
 mod maps;
+mod masks;
 mod reference;
 mod refusals;
 mod regions;

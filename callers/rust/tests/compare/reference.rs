@@ -1,4 +1,4 @@
-//! Document 01 in 128-bit integers, written from the paper: each outcome is a number, 0 if accepted, and its values, zeros with a refusal.
+//! Document 01 and the masks of document 02 in 128-bit integers, written from the papers: each outcome is a number, 0 if accepted, and its values, zeros with a refusal.
 
 pub type Outcome<const N: usize> = (u32, [i128; N]);
 
@@ -153,4 +153,59 @@ pub fn region_call(runs: &[[u32; 3]]) -> (u32, [i128; 6], Vec<usize>) {
         }
     }
     (0, sums, vec![0])
+}
+
+/// A mask is refused by its length alone.
+fn wrong_length(words: &[u64]) -> bool {
+    words.len() % 16 != 0 || words.len() / 16 > 1024
+}
+
+/// Whether each cell of the rows is marked, bit by bit: row by row, and each row by column.
+fn marked(words: &[u64]) -> Vec<[bool; 1024]> {
+    words
+        .chunks_exact(16)
+        .map(|row| std::array::from_fn(|column| row[column / 64] & (1 << (column % 64)) != 0))
+        .collect()
+}
+
+pub fn mask_sums_call(words: &[u64]) -> Outcome<6> {
+    if wrong_length(words) {
+        return refused(31);
+    }
+    let mut sums = [0; 6];
+    for (y, row) in (0..).zip(marked(words)) {
+        for (x, cell) in (0..).zip(row) {
+            for (sum, term) in sums.iter_mut().zip([1, x, y, x * x, x * y, y * y]) {
+                *sum += if cell { term } else { 0 };
+            }
+        }
+    }
+    (0, sums)
+}
+
+/// The longest runs, in order: a marked cell belongs to the run of the cell before it in its row, or begins one.
+pub fn longest_runs(words: &[u64]) -> Vec<[u32; 3]> {
+    let mut runs: Vec<[u32; 3]> = Vec::new();
+    for (y, row) in (0..).zip(marked(words)) {
+        for x in (0..1024).filter(|&x| row[x]) {
+            match runs.last_mut() {
+                Some(run) if x > 0 && row[x - 1] => run[2] += 1,
+                _ => runs.push([y, x as u32, 1]),
+            }
+        }
+    }
+    runs
+}
+
+/// The number, how many runs were written, and the caller's list afterwards.
+pub fn mask_runs_call(words: &[u64], before: &[[u32; 3]]) -> (u32, usize, Vec<[u32; 3]>) {
+    if wrong_length(words) {
+        return (31, 0, before.to_vec());
+    }
+    let runs = longest_runs(words);
+    if runs.len() > 4096 || runs.len() > before.len() {
+        return (8, 0, before.to_vec());
+    }
+    let count = runs.len();
+    (0, count, [&runs[..], &before[count..]].concat())
 }

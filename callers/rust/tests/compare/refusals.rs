@@ -1,19 +1,21 @@
 //! Refusals as numbers, as texts and as errors.
 use crate::runs_of;
 use mavrihkel::{outline_centroid, outline_totals, region_sums, Centre, Refusal, RegionRefusal};
-use std::collections::BTreeSet;
+use std::collections::BTreeMap;
 use std::error::Error;
 use std::fs;
 use std::path::Path;
 
-const OF_OUTLINES: [Refusal; 7] = [
+const OF_OUTLINES_AND_MASKS: [Refusal; 9] = [
     Refusal::CoordinateOutsideLimits,
     Refusal::WrongLength,
     Refusal::MapOutsideLimits,
     Refusal::TotalsOutsideBounds,
     Refusal::MappedOutsideLimits,
+    Refusal::TooManyRuns,
     Refusal::CentreOutsideLimits,
     Refusal::NoArea,
+    Refusal::WrongMaskLength,
 ];
 const OF_REGIONS: [RegionRefusal; 3] = [
     RegionRefusal::BadRun(4),
@@ -23,15 +25,20 @@ const OF_REGIONS: [RegionRefusal; 3] = [
 
 #[test]
 fn numbers() {
-    assert_eq!(OF_OUTLINES.map(Refusal::number), [1, 2, 3, 4, 5, 11, 27]);
+    assert_eq!(
+        OF_OUTLINES_AND_MASKS.map(Refusal::number),
+        [1, 2, 3, 4, 5, 8, 11, 27, 31]
+    );
     assert_eq!(OF_REGIONS.map(RegionRefusal::number), [6, 7, 8]);
 }
 
 /// What every refusal says before its meaning, the meaning, and its number.
 fn texts() -> Vec<(String, String, u32)> {
-    let outlines = OF_OUTLINES.iter().map(|r| (r.to_string(), r.number()));
+    let others = OF_OUTLINES_AND_MASKS
+        .iter()
+        .map(|r| (r.to_string(), r.number()));
     let regions = OF_REGIONS.iter().map(|r| (r.to_string(), r.number()));
-    outlines
+    others
         .chain(regions)
         .map(|(text, number)| {
             let (before, meaning) = text.split_once(": ").expect("a meaning");
@@ -48,8 +55,10 @@ fn texts_begin_with_the_number_and_the_index() {
         "refusal 3",
         "refusal 4",
         "refusal 5",
+        "refusal 8",
         "refusal 11",
         "refusal 27",
+        "refusal 31",
         "refusal 6 (run 4, counted from 0)",
         "refusal 7 (run 5, counted from 0)",
         "refusal 8",
@@ -69,15 +78,19 @@ fn pages() -> String {
         .collect()
 }
 
-/// Each meaning is another one, and is that of the number's row in the table of refusals.
+/// Each number's meaning is another one, and is that of the number's row in the table of refusals.
 #[test]
 fn meanings_are_those_of_the_table() {
     let pages = pages();
-    let mut meanings = BTreeSet::new();
+    let mut numbers = BTreeMap::new();
     for (_, meaning, number) in texts() {
         let row = format!("\n| {number} | {meaning} | ");
         assert!(pages.contains(&row), "no page has the row {row}");
-        assert!(meanings.insert(meaning), "{row} has another's meaning");
+        let earlier = numbers.insert(meaning, number);
+        assert!(
+            earlier.is_none_or(|n| n == number),
+            "{row} has another's meaning"
+        );
     }
 }
 

@@ -1,8 +1,8 @@
 //! Document 01's plots worked by hand, through the functions that give results.
 use crate::{affine_map, runs_of, totals};
 use mavrihkel::{
-    map_totals, outline_centroid, outline_totals, region_sums, CellSums, Centre, Refusal,
-    RegionRefusal,
+    map_totals, mask_runs, mask_sums, outline_centroid, outline_totals, region_sums, CellSums,
+    Centre, Refusal, RegionRefusal,
 };
 
 #[test]
@@ -49,6 +49,25 @@ fn region_refusals() {
     assert_eq!(overlap, Err(RegionRefusal::OutOfOrder(2)));
     let many = region_sums(&runs_of(&[[3, 2, 3]; 4097]));
     assert_eq!(many, Err(RegionRefusal::TooManyRuns));
+}
+
+#[test]
+fn mask_refusals() {
+    let mut list = runs_of(&[[7, 8, 9]; 4097]);
+    let before = list.clone();
+    for length in [15, 17, 16_400] {
+        let words = vec![u64::MAX; length];
+        assert_eq!(mask_sums(&words), Err(Refusal::WrongMaskLength));
+        assert_eq!(mask_runs(&words, &mut list), Err(Refusal::WrongMaskLength));
+    }
+    let mut words = vec![0x5555_5555_5555_5555; 8 * 16];
+    assert_eq!(
+        mask_runs(&words, &mut list[..4095]),
+        Err(Refusal::TooManyRuns)
+    );
+    words.extend([1; 16]);
+    assert_eq!(mask_runs(&words, &mut list), Err(Refusal::TooManyRuns));
+    assert!(list == before);
 }
 
 #[test]
