@@ -1,7 +1,11 @@
 #!/usr/bin/env python3
 """Speed of `plots` as ratios: beside the same program in C and in Rust, on the same inputs, in one run.
+Then that of the library's calls.
 
 python3 bench/run.py [--rounds N] [--write docs/SPEED.md] [--plots PROGRAM]
+python3 bench/run.py --masks
+
+The second prints the tables of the calls on masks alone.
 
 Builds what it needs and makes the inputs, all under target/. On each input the three programs must
 first write the same bytes; then they are timed in turns. Exits 1 on a difference, and where
@@ -21,6 +25,7 @@ ROOT = Path(__file__).resolve().parent.parent
 BENCH = ROOT / "bench"
 BUILT = ROOT / "target" / "bench"
 CALLERS = ROOT / "callers" / "rust"
+LIBRARY = ROOT / "target" / "staticlib" / "libexports.a"
 MOST_KILOBYTES = 4_000
 TABLE_BEGINS = "<!-- bench/run.py writes from here -->\n"
 TABLE_ENDS = "<!-- to here -->\n"
@@ -116,15 +121,24 @@ def program_table(programs, paths, rounds):
     return table(["Input, 1,000,000 lines each"] + [f"`plots` / {other}" for other in BESIDE], rows)
 
 
-def library_tables():
-    """What the callers' own benchmark prints: tables separated by an empty line, columns by two spaces or more."""
-    run("rt", "staticlib", "exports")
-    printed = run("cargo", "run", "--quiet", "--release", "--bin", "bench", folder=CALLERS)
+def printed_tables(printed):
+    """What a benchmark of the library prints: tables separated by an empty line, columns by two spaces or more."""
     tables = []
     for part in printed.strip().split("\n\n"):
         head, *rows = [re.split(r"\s{2,}", line.strip()) for line in part.splitlines()]
         tables.append(table(head, rows))
     return "\n".join(tables)
+
+
+def library_tables():
+    """The ratios of the calls on lists of points and of runs, by the callers' own benchmark."""
+    return printed_tables(run("cargo", "run", "--quiet", "--release", "--bin", "bench", folder=CALLERS))
+
+
+def mask_tables():
+    """The ratios of the calls on masks."""
+    run("gcc", "-O3", "-o", BUILT / "masks", BENCH / "masks.c", LIBRARY)
+    return printed_tables(run(BUILT / "masks"))
 
 
 def machine():
@@ -142,7 +156,9 @@ def report(programs, paths, rounds):
     text = f"{machine()}\nThe least of {rounds} rounds.\n\n{program_table(programs, paths, rounds)}"
     text += f"\nPeak memory of `plots`: {most:,} kB at most, {peaks['long']:,} kB on {UNTIMED['long'][1]}.\n"
     if CALLERS.exists():
+        run("rt", "staticlib", "exports")
         text += f"\nCalls of the library from Rust:\n\n{library_tables()}"
+        text += f"\nCalls of the library on masks, from C:\n\n{mask_tables()}"
     return text, most < MOST_KILOBYTES
 
 
@@ -161,7 +177,13 @@ def main():
     parser.add_argument("--rounds", type=int, default=40)
     parser.add_argument("--write", metavar="FILE", help="put the table into this page")
     parser.add_argument("--plots", metavar="PROGRAM", help="measure this program instead of target/bin/plots")
+    parser.add_argument("--masks", action="store_true", help="the calls on masks alone")
     chosen = parser.parse_args()
+    if chosen.masks:
+        BUILT.mkdir(parents=True, exist_ok=True)
+        run("rt", "staticlib", "exports")
+        print(mask_tables(), end="")
+        return
     if chosen.write and chosen.plots:
         sys.exit("only figures of target/bin/plots, which is proved, are written down")
     programs = build(chosen.plots and Path(chosen.plots).resolve())

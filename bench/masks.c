@@ -1,0 +1,258 @@
+/*
+ * How long the library's calls on masks take beside the same work in C, as ratios taken in one process: the library's time over that of the same steps (words skipped, ones counted, ends of runs
+ * found by trailing zeros), and over that of a loop that looks at every cell by itself. All of them test the lengths and refuse as the library does. Each time is the least of ROUNDS, in which the
+ * calls take turns on the same mask. Ends with 1 if two of them answer differently. bench/run.py builds it with the library.
+ */
+#include <stdint.h>
+#include <stdio.h>
+#include <stdlib.h>
+#include <string.h>
+#include <time.h>
+
+#include "../callers/c/mavrihkel.h"
+
+enum { ROWS = 1024, WORDS_IN_A_ROW = 16, WORDS = ROWS * WORDS_IN_A_ROW, COLUMNS = 1024, MOST_RUNS = 4096, CALLS = 3, ROUNDS = 40, TIMES = 5 };
+
+typedef uint32_t sums_call(const uint64_t *words, size_t words_length, int64_t *out, size_t out_length);
+typedef uint32_t runs_call(const uint64_t *words, size_t words_length, struct mavrihkel_run *runs, size_t runs_length, int64_t *out, size_t out_length);
+
+static int wrong_length(size_t length) { return length % WORDS_IN_A_ROW != 0 || length > WORDS; }
+
+static void add_cells(int64_t *sums, int64_t count, int64_t x, int64_t xx, int64_t y)
+{
+    sums[0] += count;
+    sums[1] += x;
+    sums[2] += count * y;
+    sums[3] += xx;
+    sums[4] += x * y;
+    sums[5] += count * y * y;
+}
+
+/* ---- by trailing zeros */
+
+/* 0 + 1 + .. + (n - 1). */
+static int64_t index_sum(uint64_t n) { return (int64_t)((n * n - n) / 2); }
+
+/* 0² + 1² + .. + (n - 1)². */
+static int64_t square_sum(uint64_t n)
+{
+    uint64_t product = n * n - n;
+    return (int64_t)((2 * n * product - product) / 6);
+}
+
+/* The first place from `from` on, below 64, at which the word has a one; 64 if there is none. */
+static uint32_t first_set(uint64_t word, uint32_t from)
+{
+    uint64_t rest = from < 64 ? word >> from : 0;
+    return rest == 0 ? 64 : from + (uint32_t)__builtin_ctzll(rest);
+}
+
+/* The same of a zero. */
+static uint32_t first_clear(uint64_t word, uint32_t from) { return first_set(~word, from); }
+
+__attribute__((noinline)) static uint32_t word_sums(const uint64_t *words, size_t words_length, int64_t *out, size_t out_length)
+{
+    if (out_length < MAVRIHKEL_SUMS) return MAVRIHKEL_SHORT_BUFFER;
+    int64_t sums[MAVRIHKEL_SUMS] = {0};
+    uint32_t number = wrong_length(words_length) ? 31 : 0;
+    for (size_t k = 0; number == 0 && k < words_length; k++) {
+        uint64_t word = words[k];
+        uint64_t column = 64 * (k % WORDS_IN_A_ROW);
+        int64_t x = 0, xx = 0;
+        if (word == 0) continue;
+        for (uint32_t start = first_set(word, 0), end; start < 64; start = first_set(word, end)) {
+            end = first_clear(word, start);
+            x += index_sum(column + end) - index_sum(column + start);
+            xx += square_sum(column + end) - square_sum(column + start);
+        }
+        add_cells(sums, __builtin_popcountll(word), x, xx, k / WORDS_IN_A_ROW);
+    }
+    memcpy(out, sums, sizeof sums);
+    return number;
+}
+
+/* The first cell from `at` on, below `end`, whose bit is a one after each word is changed by `change`; `end` if there is none. */
+static size_t first_cell(const uint64_t *words, size_t at, size_t end, uint64_t change)
+{
+    while (at < end) {
+        uint64_t rest = (words[at / 64] ^ change) >> (at % 64);
+        if (rest != 0) return at + (size_t)__builtin_ctzll(rest);
+        at = (at / 64 + 1) * 64;
+    }
+    return end;
+}
+
+/* The next run from the cell `at` on; the cell behind it, or `end` with a run of no length if there is none. */
+static size_t next_run(const uint64_t *words, size_t at, size_t end, struct mavrihkel_run *run)
+{
+    size_t first = first_cell(words, at, end, 0), row = first / COLUMNS;
+    size_t behind = first < end ? first_cell(words, first, (row + 1) * COLUMNS, UINT64_MAX) : end;
+    *run = (struct mavrihkel_run){(uint32_t)row, (uint32_t)(first % COLUMNS), (uint32_t)(behind - first)};
+    return behind;
+}
+
+__attribute__((noinline)) static uint32_t word_runs(const uint64_t *words, size_t words_length, struct mavrihkel_run *runs, size_t runs_length, int64_t *out, size_t out_length)
+{
+    if (out_length < MAVRIHKEL_WRITTEN) return MAVRIHKEL_SHORT_BUFFER;
+    size_t most = runs_length < MOST_RUNS ? runs_length : MOST_RUNS, cells = 64 * words_length, count = 0, at = 0;
+    struct mavrihkel_run run;
+    out[0] = 0;
+    if (wrong_length(words_length)) return 31;
+    while (at < cells && count <= most) {
+        at = next_run(words, at, cells, &run);
+        count += run.length != 0;
+    }
+    if (count > most) return 8;
+    at = 0;
+    for (size_t i = 0; i < count; i++) at = next_run(words, at, cells, &runs[i]);
+    out[0] = (int64_t)count;
+    return 0;
+}
+
+/* ---- cell by cell */
+
+static int is_marked(const uint64_t *words, size_t cell) { return words[cell / 64] >> (cell % 64) & 1; }
+
+__attribute__((noinline)) static uint32_t bit_sums(const uint64_t *words, size_t words_length, int64_t *out, size_t out_length)
+{
+    if (out_length < MAVRIHKEL_SUMS) return MAVRIHKEL_SHORT_BUFFER;
+    int64_t sums[MAVRIHKEL_SUMS] = {0};
+    uint32_t number = wrong_length(words_length) ? 31 : 0;
+    for (size_t cell = 0; number == 0 && cell < 64 * words_length; cell++) {
+        int64_t x = cell % COLUMNS;
+        if (is_marked(words, cell)) add_cells(sums, 1, x, x * x, cell / COLUMNS);
+    }
+    memcpy(out, sums, sizeof sums);
+    return number;
+}
+
+__attribute__((noinline)) static uint32_t bit_runs(const uint64_t *words, size_t words_length, struct mavrihkel_run *runs, size_t runs_length, int64_t *out, size_t out_length)
+{
+    if (out_length < MAVRIHKEL_WRITTEN) return MAVRIHKEL_SHORT_BUFFER;
+    size_t most = runs_length < MOST_RUNS ? runs_length : MOST_RUNS, count = 0;
+    out[0] = 0;
+    if (wrong_length(words_length)) return 31;
+    for (size_t cell = 0; cell < 64 * words_length && count <= most; cell++)
+        count += is_marked(words, cell) && (cell % COLUMNS == 0 || !is_marked(words, cell - 1));
+    if (count > most) return 8;
+    size_t written = 0;
+    for (size_t cell = 0; cell < 64 * words_length; cell++) {
+        if (!is_marked(words, cell)) continue;
+        if (cell % COLUMNS != 0 && is_marked(words, cell - 1)) runs[written - 1].length++;
+        else runs[written++] = (struct mavrihkel_run){(uint32_t)(cell / COLUMNS), (uint32_t)(cell % COLUMNS), 1};
+    }
+    out[0] = (int64_t)count;
+    return 0;
+}
+
+/* ---- masks of 1,024 rows */
+
+static uint64_t mask[WORDS];
+
+static uint64_t random_word(void)
+{
+    static uint64_t state = 14;
+    uint64_t z = state += UINT64_C(0x9e3779b97f4a7c15);
+    z = (z ^ (z >> 30)) * UINT64_C(0xbf58476d1ce4e5b9);
+    z = (z ^ (z >> 27)) * UINT64_C(0x94d049bb133111eb);
+    return z ^ (z >> 31);
+}
+
+/* Every word of the first rows at random, every other one empty. */
+static void random_rows(size_t rows)
+{
+    for (size_t k = 0; k < WORDS; k++) mask[k] = k < rows * WORDS_IN_A_ROW ? random_word() : 0;
+}
+
+/* So many cells of each row or fewer, in columns at random, have another bit than all others. */
+static void some_cells(uint64_t others, int cells)
+{
+    for (size_t k = 0; k < WORDS; k++) mask[k] = others;
+    for (size_t row = 0; row < ROWS; row++)
+        for (int n = 0; n < cells; n++) {
+            size_t column = random_word() % COLUMNS;
+            uint64_t *word = &mask[row * WORDS_IN_A_ROW + column / 64], bit = UINT64_C(1) << (column % 64);
+            *word = (*word | bit) ^ (others & bit);
+        }
+}
+
+static void sparse(void) { some_cells(0, 4); }
+static void dense(void) { some_cells(UINT64_MAX, 3); }
+static void full(void) { some_cells(UINT64_MAX, 0); }
+static void random_in_some(void) { random_rows(15); }
+static void random_in_all(void) { random_rows(ROWS); }
+
+static const struct { const char *name; void (*make)(void); uint32_t runs_number; } masks[] = {
+    {"sparse: four cells of each row marked", sparse, 0},
+    {"dense: all but three cells of each row marked", dense, 0},
+    {"full: every cell marked", full, 0},
+    {"random in 15 rows: each cell marked or not; the others empty", random_in_some, 0},
+    {"random in every row: its runs are refused with 8", random_in_all, 8},
+};
+
+/* ---- measuring */
+
+static struct mavrihkel_run list[MOST_RUNS];
+static int64_t out[MAVRIHKEL_SUMS];
+static sums_call *const sums_calls[CALLS] = {mavrihkel_mask_sums, word_sums, bit_sums};
+static runs_call *const runs_calls[CALLS] = {mavrihkel_mask_runs, word_runs, bit_runs};
+
+static uint32_t call_sums(int call) { return sums_calls[call](mask, WORDS, out, MAVRIHKEL_SUMS); }
+static uint32_t call_runs(int call) { return runs_calls[call](mask, WORDS, list, MOST_RUNS, out, MAVRIHKEL_WRITTEN); }
+
+/* Ends the run if a call does not answer as the library does, with this number. */
+static void agree(uint32_t (*call)(int), uint32_t number)
+{
+    static struct mavrihkel_run wanted_list[MOST_RUNS];
+    int64_t wanted[MAVRIHKEL_SUMS];
+    for (int k = 0; k < CALLS; k++) {
+        memset(list, 255, sizeof list);
+        memset(out, 255, sizeof out);
+        int right = call(k) == number;
+        if (k == 0) {
+            memcpy(wanted_list, list, sizeof list);
+            memcpy(wanted, out, sizeof out);
+        }
+        if (!right || memcmp(wanted_list, list, sizeof list) != 0 || memcmp(wanted, out, sizeof out) != 0) {
+            fprintf(stderr, "call %d answers otherwise than the library, or not with %u\n", k, number);
+            exit(1);
+        }
+    }
+}
+
+static double seconds_of(uint32_t (*call)(int), int k)
+{
+    struct timespec start, end;
+    clock_gettime(CLOCK_MONOTONIC, &start);
+    for (int n = 0; n < TIMES; n++) {
+        call(k);
+        __asm__ volatile("" ::: "memory");
+    }
+    clock_gettime(CLOCK_MONOTONIC, &end);
+    return (double)(end.tv_sec - start.tv_sec) + 1e-9 * (double)(end.tv_nsec - start.tv_nsec);
+}
+
+/* Columns are parted by two spaces or more. */
+static void table(const char *what, uint32_t (*call)(int), int refuses)
+{
+    printf("%s  library/the same steps in C  library/cell by cell in C\n", what);
+    for (size_t m = 0; m < sizeof masks / sizeof masks[0]; m++) {
+        double least[CALLS] = {1e9, 1e9, 1e9};
+        masks[m].make();
+        agree(call, refuses ? masks[m].runs_number : 0);
+        for (int round = 0; round < ROUNDS; round++)
+            for (int k = 0; k < CALLS; k++) {
+                double seconds = seconds_of(call, k);
+                if (seconds < least[k]) least[k] = seconds;
+            }
+        printf("%s  %.2f  %.3f\n", masks[m].name, least[0] / least[1], least[0] / least[2]);
+    }
+}
+
+int main(void)
+{
+    table("sums of a mask of 1,024 rows", call_sums, 0);
+    putchar('\n');
+    table("runs of a mask of 1,024 rows", call_runs, 1);
+    return 0;
+}
