@@ -15,3 +15,4 @@ mod MaskRefusals
 mod OnesCounted
 mod MaskLimits
 mod WorkedMasks
+mod MaskUses

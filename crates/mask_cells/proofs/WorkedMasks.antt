@@ -11,33 +11,33 @@ use Rattle.cells.specs.RegionCall.{tooMany}
 use Rattle.mask_cells.specs.MaskCells.{isMarked, rowsFrom, those, markedCells, beginsRun, endColumn, longestRuns}
 use Rattle.mask_cells.specs.MaskCalls.{wrongLength, maskSumsCall, tooManyFor, maskRunsCall}
 
-abbrev run : ℕ → ℕ → ℕ → Run
+abbrev pub run : ℕ → ℕ → ℕ → Run
 run y x n = record { row = y; first = x; length = n }
 
 -- ---- a mask of two rows
 
 -- Row 0: bits 0 and 63 of word 0, bits 0 and 1 of word 1, bit 63 of word 15. Row 1: bit 0 of word 0.
-abbrev corners : List ℕ
+abbrev pub corners : List ℕ
 corners = 0x8000_0000_0000_0001 ∷ 3 ∷ replicate 13 0 ++ 0x8000_0000_0000_0000 ∷ 1 ∷ replicate 15 0
 
 -- Column 63 joins column 64, in the next word; column 1,023 does not join column 0 of the next row.
-abbrev cornerRuns : List Run
+abbrev pub cornerRuns : List Run
 cornerRuns = run 0 0 1 ∷ run 0 63 3 ∷ run 0 1023 1 ∷ run 1 0 1 ∷ []
 
 -- Records that the caller's list holds before.
-abbrev old : ℕ → Run
+abbrev pub old : ℕ → Run
 old k = run (100 + k) 5 6
 
-record Corners : Type 0 where
-  runs : longestRuns corners ≡ cornerRuns
-  sums : maskSumsCall corners ≡ record { number = 0; sums = record { count = pos 6; x = pos 1215; y = pos 1; xx = pos 1_058_819; xy = pos 0; yy = pos 1 } }
+pub record Corners : Type 0 where
+  pub runs : longestRuns corners ≡ cornerRuns
+  pub sums : maskSumsCall corners ≡ record { number = 0; sums = record { count = pos 6; x = pos 1215; y = pos 1; xx = pos 1_058_819; xy = pos 0; yy = pos 1 } }
   -- the writer, into a list longer by two, as long, shorter by one, and empty
-  longer : maskRunsCall corners (old 0 ∷ old 1 ∷ old 2 ∷ old 3 ∷ old 4 ∷ old 5 ∷ []) ≡ record { number = 0; index = 0; count = 4; list = cornerRuns ++ old 4 ∷ old 5 ∷ [] }
-  as-long : maskRunsCall corners (old 0 ∷ old 1 ∷ old 2 ∷ old 3 ∷ []) ≡ record { number = 0; index = 0; count = 4; list = cornerRuns }
-  shorter : maskRunsCall corners (old 0 ∷ old 1 ∷ old 2 ∷ []) ≡ record { number = 8; index = 0; count = 0; list = old 0 ∷ old 1 ∷ old 2 ∷ [] }
-  none : maskRunsCall corners [] ≡ record { number = 8; index = 0; count = 0; list = [] }
+  pub longer : maskRunsCall corners (old 0 ∷ old 1 ∷ old 2 ∷ old 3 ∷ old 4 ∷ old 5 ∷ []) ≡ record { number = 0; index = 0; count = 4; list = cornerRuns ++ old 4 ∷ old 5 ∷ [] }
+  pub as-long : maskRunsCall corners (old 0 ∷ old 1 ∷ old 2 ∷ old 3 ∷ []) ≡ record { number = 0; index = 0; count = 4; list = cornerRuns }
+  pub shorter : maskRunsCall corners (old 0 ∷ old 1 ∷ old 2 ∷ []) ≡ record { number = 8; index = 0; count = 0; list = old 0 ∷ old 1 ∷ old 2 ∷ [] }
+  pub none : maskRunsCall corners [] ≡ record { number = 8; index = 0; count = 0; list = [] }
 
-worked-corners : Corners
+pub worked-corners : Corners
 unfolding firstWhere cellsFrom sumsOver tooMany isMarked rowsFrom those markedCells beginsRun endColumn longestRuns wrongLength maskSumsCall tooManyFor maskRunsCall
 worked-corners = record { runs = refl; sums = refl; longer = refl; as-long = refl; shorter = refl; none = refl }
 

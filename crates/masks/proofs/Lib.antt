@@ -1,3 +1,4 @@
+mod AnswerReadings
 mod Lengths
 mod NextRun
 mod RunsLeft

@@ -1,0 +1,91 @@
+-- The statements on masks used, with every quantifier free and at one mask, so that a weaker statement is refused here.
+use mathlib.Core.Path.{_≡_, sym, ap, _∙_}
+use mathlib.Core.Bool.{true, false}
+use mathlib.Core.List.{List, [], _∷_, _++_}
+use mathlib.Core.Logic.{_⊎_, _≢_}
+use Prim.Native.Nat.{ℕ, _+_, _-_, _*_, _/_, _%_, _≤_, _<_}
+use lib.IntN.{pos}
+use lib.ListN.{length, getD, take, drop}
+use Rattle.word_runs.specs.Bits.{onesBelow}
+use Rattle.cells.specs.declared.Run.{Run}
+use Rattle.cells.specs.CellSums.{cellsFrom, allCells, zeros, sumsOver}
+use Rattle.cells.specs.RegionCall.{tooMany, regionCall, runAt}
+use Rattle.mask_cells.specs.MaskCells.{cellAt, isMarked, those, markedCells, longestRuns}
+use Rattle.mask_cells.specs.MaskCalls.{MaskSumsOutcome, wrongLength, maskSumsCall, maskRunsCall}
+use Rattle.mask_cells.specs.MaskLaws.{onesIn}
+use Rattle.mask_cells.proofs.RunsCells.{runs-cells}
+use Rattle.mask_cells.proofs.NoneTouch.{none-touch}
+use Rattle.mask_cells.proofs.EachLongest.{each-longest}
+use Rattle.mask_cells.proofs.OnlyLongest.{only-longest}
+use Rattle.mask_cells.proofs.RunsAccepted.{runs-accepted}
+use Rattle.mask_cells.proofs.WrittenRegion.{written-region}
+use Rattle.mask_cells.proofs.MaskRefusals.{mask-refusals}
+use Rattle.mask_cells.proofs.OnesCounted.{ones-in-word, ones-counted}
+use Rattle.mask_cells.proofs.WorkedMasks.{old, corners, cornerRuns, worked-corners}
+
+-- ---- every mask
+
+module _ (ws : List ℕ) where
+  abbrev runs : List Run
+  runs = longestRuns ws
+
+  abbrev at : ℕ → Run
+  at i = runAt runs i
+
+  same-cells : allCells runs ≡ markedCells ws
+  same-cells = runs-cells ws
+
+  with-a-cell-between : (i j : ℕ) → i < j → j < length runs → (at i .row < at j .row) ⊎ ((at i .row ≡ at j .row) × (at i .first + at i .length < at j .first))
+  with-a-cell-between = none-touch ws
+
+  all-marked : (i x : ℕ) → i < length runs → at i .first ≤ x → x < at i .first + at i .length → isMarked ws (cellAt (at i .row) x) ≡ true
+  all-marked i x h = each-longest ws i h .marked x
+
+  not-marked-before : (i : ℕ) → i < length runs → (at i .first ≡ 0) ⊎ (isMarked ws (cellAt (at i .row) (at i .first - 1)) ≡ false)
+  not-marked-before i h = each-longest ws i h .begins
+
+  not-marked-behind : (i : ℕ) → i < length runs → (at i .first + at i .length ≡ 1024) ⊎ (isMarked ws (cellAt (at i .row) (at i .first + at i .length)) ≡ false)
+  not-marked-behind i h = each-longest ws i h .ends
+
+  no-other-list : (rs : List Run) → ((i : ℕ) → i < length rs → 0 < runAt rs i .length)
+      → ((i j : ℕ) → i < j → j < length rs → (runAt rs i .row < runAt rs j .row) ⊎ ((runAt rs i .row ≡ runAt rs j .row) × (runAt rs i .first + runAt rs i .length < runAt rs j .first)))
+      → allCells rs ≡ markedCells ws → rs ≡ runs
+  no-other-list = only-longest ws
+
+  accepted : wrongLength ws ≡ false → tooMany runs ≡ false → (i : ℕ) → regionCall runs i ≡ record { number = 0; index = 0; sums = sumsOver (markedCells ws) }
+  accepted = runs-accepted ws
+
+  ones-of-a-word : (k : ℕ) → length (those (isMarked ws) (cellsFrom (k / 16) (64 * (k % 16)) 64)) ≡ onesBelow 64 (getD ws k 0)
+  ones-of-a-word = ones-in-word ws
+
+  ones-of-all : length ws % 16 ≡ 0 → sumsOver (markedCells ws) .count ≡ pos (onesIn ws)
+  ones-of-all = ones-counted ws
+
+  module _ (before : List Run) where
+    both-calls : maskRunsCall ws before .number ≡ 0 → (i : ℕ)
+        → regionCall (take (maskRunsCall ws before .count) (maskRunsCall ws before .list)) i ≡ record { number = maskSumsCall ws .number; index = 0; sums = maskSumsCall ws .sums }
+    both-calls h i = written-region ws before h .sums i ∙ ap (λ n. record { number = n; index = 0; sums = maskSumsCall ws .sums }) (sym (written-region ws before h .mask-accepted))
+
+    behind : maskRunsCall ws before .number ≡ 0 → maskRunsCall ws before .list ≡ runs ++ drop (maskRunsCall ws before .count) before
+    behind h = written-region ws before h .list
+
+    unchanged : maskRunsCall ws before .number ≢ 0 → maskRunsCall ws before .list ≡ before
+    unchanged h = mask-refusals ws before .list h
+
+    not-counted : maskRunsCall ws before .number ≢ 0 → maskRunsCall ws before .count ≡ 0
+    not-counted h = mask-refusals ws before .count h
+
+    no-sums : maskSumsCall ws .number ≢ 0 → maskSumsCall ws .sums ≡ zeros
+    no-sums h = mask-refusals ws before .sums h
+
+-- ---- one mask, written into a list of six
+
+abbrev six : List Run
+six = old 0 ∷ old 1 ∷ old 2 ∷ old 3 ∷ old 4 ∷ old 5 ∷ []
+
+-- The call on the four written runs gives the sums of the mask.
+corner-sums : (i : ℕ) → regionCall cornerRuns i ≡ record { number = 0; index = 0; sums = record { count = pos 6; x = pos 1215; y = pos 1; xx = pos 1_058_819; xy = pos 0; yy = pos 1 } }
+corner-sums i =
+    ap (λ o. regionCall (take (o .count) (o .list)) i) (sym (worked-corners .longer))
+    ∙ both-calls corners six (ap (λ o. o .number) (worked-corners .longer)) i
+    ∙ ap (λ (o : MaskSumsOutcome). record { number = o .number; index = 0; sums = o .sums }) (worked-corners .sums)
