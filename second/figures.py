@@ -204,6 +204,19 @@ def abandon(walk):
 
 # Cells
 
+def sums_over(cells):
+    """The six sums over cells, each as its column and row."""
+    a = sum_x = sum_y = sum_xx = sum_xy = sum_yy = 0
+    for x, y in cells:
+        a += 1
+        sum_x += x
+        sum_y += y
+        sum_xx += x * x
+        sum_xy += x * y
+        sum_yy += y * y
+    return CellSums(a, sum_x, sum_y, sum_xx, sum_xy, sum_yy)
+
+
 def lies_after(run, earlier):
     """Further up, or in the same row from where the earlier run has ended on."""
     return run.row > earlier.row or (
@@ -226,17 +239,7 @@ def region_sums(runs):
                     if not lies_after(runs[index], runs[index - 1])}
     if out_of_order:
         return 7, out_of_order, ZERO_SUMS
-    a = sum_x = sum_y = sum_xx = sum_xy = sum_yy = 0
-    for run in runs:
-        y = run.row
-        for x in range(run.first, run.first + run.length):
-            a += 1
-            sum_x += x
-            sum_y += y
-            sum_xx += x * x
-            sum_xy += x * y
-            sum_yy += y * y
-    return ACCEPTED, {0}, CellSums(a, sum_x, sum_y, sum_xx, sum_xy, sum_yy)
+    return ACCEPTED, {0}, sums_over((x, run.row) for run in runs for x in range(run.first, run.first + run.length))
 
 
 # Centre

@@ -5,7 +5,7 @@ of a row, from the lowest, is column 64×w + i.  Both calls answer a refusal num
 first; 0 means that the call was accepted.
 """
 from figures import ACCEPTED, GRID_SIDE, MOST_RUNS, ZERO_SUMS
-from figures import CellSums, Run
+from figures import Run, sums_over
 
 WORD_BITS = 64
 WORDS_IN_A_ROW = GRID_SIDE // WORD_BITS
@@ -37,16 +37,7 @@ def mask_sums(words):
     """Sums of the marked cells, cell by cell: (number, sums)."""
     if has_wrong_length(words):
         return 31, ZERO_SUMS
-    a = sum_x = sum_y = sum_xx = sum_xy = sum_yy = 0
-    for y in rows_of(words):
-        for x in marked_columns(words, y):
-            a += 1
-            sum_x += x
-            sum_y += y
-            sum_xx += x * x
-            sum_xy += x * y
-            sum_yy += y * y
-    return ACCEPTED, CellSums(a, sum_x, sum_y, sum_xx, sum_xy, sum_yy)
+    return ACCEPTED, sums_over((x, y) for y in rows_of(words) for x in marked_columns(words, y))
 
 
 def row_runs(words, y):
