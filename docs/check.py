@@ -6,8 +6,9 @@ In NUMBERS.md and CASES.md every figure must be one that is recomputed:
 - a code span with =, ≤, < or ≈: its sides, by exact fractions. A decimal after = is exact; one after ≈ is rounded to
   the places that it has. Its names stand for the figures of the line that the last comment `figures:` names, of the
   last block or of an example file, and it does not end in a fraction; before the first such comment under a heading
-  it is a general formula, and is tried on every line of the page and on made-up outlines and regions;
-- a table after a comment `terms`, `map`, `edges`, `loops`, `test` or `trial`; a block `runs` or `map`.
+  it is a general formula, and is tried on every line of the page and on made-up outlines, regions and bits of masks;
+- a table after a comment `terms`, `map`, `edges`, `loops`, `test`, `trial` or `answers`; a block `runs`, `mask` or
+  `map`. A block `runs` that follows a block `mask` has the runs that the second program writes for it.
 A digit anywhere else is an error. A comment `crosses:`, `plain:` or `same:` says what the outlines of the lines that it
 names are. README.md: its example, its limits and its command for other units. REFUSALS.md: the numbers.
 ARCHITECTURE.md: every crate, above all that it rests on. CLAIMS*.md: see claims.py. The pictures are made again and
@@ -25,6 +26,7 @@ ROOT = DOCS.parent
 sys.path.insert(0, str(ROOT / "second"))
 import claims  # noqa: E402
 import figures  # noqa: E402
+import masks  # noqa: E402
 import moves  # noqa: E402
 import pictures  # noqa: E402
 import text  # noqa: E402
@@ -32,7 +34,7 @@ from crates import listed_crates  # noqa: E402
 from page import Page, expect, wrong  # noqa: E402
 
 PRINTED_REFUSALS = [1, 9, 10, *range(21, 27)]
-OTHER_REFUSALS = [*range(2, 9), 11, 27, 28]
+OTHER_REFUSALS = [*range(2, 9), 11, 27, 28, 31]
 LIMITS = {
     "a coordinate": f"-{figures.COORDINATE_LIMIT:,} to {figures.COORDINATE_LIMIT:,} decimetres: {figures.COORDINATE_LIMIT // 10} m from the peg, east, west, north and south",
     "points of an outline": f"{figures.LEAST_POINTS} to {figures.MOST_POINTS:,}",
@@ -42,6 +44,7 @@ LIMITS = {
     "a map's e, f": f"-{moves.SHIFT_LIMIT:,} to {moves.SHIFT_LIMIT:,}",
     "rows and columns of cells": f"0 to {figures.GRID_SIDE - 1:,}",
     "runs of a region": f"at most {figures.MOST_RUNS:,}",
+    "words of a mask": f"a multiple of {masks.WORDS_IN_A_ROW}, at most {masks.MOST_WORDS:,}",
     "lines of the input": f"at most {text.MOST_LINES:,}",
     "bytes of the input": f"at most {text.MOST_BYTES:,}",
 }

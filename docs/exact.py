@@ -18,7 +18,7 @@ CENTRAL = {"Mxx": "∫x²", "Mxy": "∫xy", "Myy": "∫y²"}
 SUMS = {"A": "area", "Σx": "∫x", "Σy": "∫y", "Σx²": "∫x²", "Σxy": "∫xy", "Σy²": "∫y²"}
 NAMES = (*TOTALS, *INTEGRANDS, *(name + unit for name, unit in METRES.items()), "area in ha", *CENTRAL,
          *(name + " in m⁴" for name in CENTRAL), *SUMS, "outline", "outlines", "points", "exact x", "exact y",
-         "centre x", "centre y", "c", "x", "y", "p", "q", "a", "b", "g", "h", "e", "f", "d")
+         "centre x", "centre y", "c", "x", "y", "p", "q", "a", "b", "g", "h", "e", "f", "d", "k", "w", "i")
 
 
 # Integrals

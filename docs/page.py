@@ -9,13 +9,14 @@ import crossings
 import exact
 import figures
 import moves
+import page_masks
 import pictures
 import text
 
 ROOT = Path(__file__).resolve().parent.parent
 SEED = 7
 MADE_UP = 100
-ALLOWED = re.compile(r"\b(A2|X6|Y6|XX12|XY24|YY12|[Dd]ocument 01|document 000|[Rr]efusal (10|27))\b")
+ALLOWED = re.compile(r"\b(A2|X6|Y6|XX12|XY24|YY12|[Dd]ocument 01|document 000|[Rr]efusal (8|10|27|31))\b")
 POINT = re.compile(r"\((-?\d+), (-?\d+)\)")
 wrong = []
 
@@ -58,7 +59,7 @@ def printed_figures(given, printed):
 
 
 def made_up():
-    """Figures of made-up outlines, edges, maps and regions, by the second program and by exact integrals."""
+    """Figures of made-up outlines, edges, maps, regions and bits, by the second program and by exact integrals."""
     chance = random.Random(SEED)
     cases = []
     for _ in range(MADE_UP):
@@ -73,7 +74,7 @@ def made_up():
         cases.append({"a": a, "b": b, "g": g, "h": h, "d": exact.integral(exact.INTEGRANDS["area"], [[(0, 0), (a, g), (a + b, g + h), (b, h)]])})
         row, first, length = chance.randint(0, 9), chance.randint(0, 9), chance.randint(1, 9)
         cases.append(region([(row, first, length), (row + 1, first + 2, length)]))
-    return cases
+    return cases + page_masks.made_up_bits(chance, MADE_UP)
 
 
 def region(runs):
@@ -92,11 +93,12 @@ class Page:
 
     def __init__(self, path, plots):
         self.path, self.plots = path, plots
-        self.lines = path.read_text().splitlines()
+        self.lines = [*path.read_text().splitlines(), ""]
         self.blocks = {}
         self.examples = {}
         self.general = made_up()
         self.terms = {}
+        self.mask = None
         self.read_blocks()
 
     def at(self, number):
@@ -104,7 +106,7 @@ class Page:
 
     def read_blocks(self):
         """Computes every fenced block; `self.blocks` has, by its last line, the figures that it gives, and `self.examples` by its file."""
-        number, given, affine, example = 0, None, None, None
+        number, given, affine, example, mask = 0, None, None, None, None
         while number < len(self.lines):
             kind, _, name = self.lines[number].removeprefix("```").partition(" ")
             if not self.lines[number].startswith("```"):
@@ -123,12 +125,20 @@ class Page:
                     self.moved(number, affine, self.blocks[last])
                 given = affine = None
             elif kind == "runs":
-                self.blocks[last] = {"region": region([tuple(map(int, line.split("\t"))) for line in body.splitlines()])}
+                runs = [tuple(map(int, line.split("\t"))) for line in body.splitlines()]
+                self.blocks[last] = {"region": region(runs)}
                 self.general += self.blocks[last].values()
+                if mask is not None:
+                    sums = tuple(self.blocks[last]["region"][name] for name in exact.SUMS)
+                    expect((runs, sums) == page_masks.runs_and_sums(mask), self.at(number), f"the mask has {page_masks.runs_and_sums(mask)}")
+                mask = None
+            elif kind == "mask":
+                mask = self.mask = page_masks.words_of(body)
+                expect(body == page_masks.block_of(mask), self.at(number), f"the mask has the words\n{page_masks.block_of(mask)}")
             elif kind == "map":
                 (a, b, e), (g, h, f) = (map(int, line.split("\t")) for line in body.splitlines())
                 affine = moves.AffineMap(a, b, g, h, e, f)
-            if kind in ("input", "output", "runs", "map"):
+            if kind in ("input", "output", "runs", "mask", "map"):
                 self.lines[number:last + 1] = [""] * (last + 1 - number)
             number = last + 1
 
@@ -165,7 +175,7 @@ class Page:
                 table.append([cell.strip() for cell in line.strip("|").split("|")])
                 if not self.lines[number + 1].startswith("|"):
                     getattr(self, "table_" + table[0])(number, table[1:], now)
-                if table[0] in ("edges", "loops", "trial"):
+                if table[0] in ("edges", "loops", "trial", "answers"):
                     continue
                 if table[0] == "test":
                     line = "|".join(table[-1][1:])
@@ -272,3 +282,8 @@ class Page:
         """The counts of the trial."""
         counted = crossings.trial(figures.outline_totals)
         expect(rows[2:] == counted, self.at(number), f"the trial counts {counted}")
+
+    def table_answers(self, number, rows, _):
+        """What both calls on masks answer for the last block `mask` and for other masks."""
+        answered = [page_masks.answers_row(self.mask, row[0], row[3]) for row in rows[2:]]
+        expect(rows[2:] == answered, self.at(number), f"the calls answer {answered}")

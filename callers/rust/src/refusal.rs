@@ -60,7 +60,7 @@ impl Refusal {
             }
             Refusal::NoArea => "the area is 0, so there is no centre",
             Refusal::WrongMaskLength => {
-                "the number of a mask's words is no multiple of 16, or is over 16,384 (1,024 rows)"
+                "a mask's number of words is no multiple of 16, or is over 16,384 (1,024 rows)"
             }
         }
     }
