@@ -1,14 +1,11 @@
 -- The next run from a position on, as the code finds it: how far a mask is scanned, where the run lies, and which run it is.
-use mathlib.Core.Path.{_≡_, sym, ap, _∙_, subst}
-use mathlib.Core.Bool.{cond}
+use mathlib.Core.Path.{_≡_, ap, _∙_, subst}
 use mathlib.Core.List.{List}
 use Prim.Native.Nat.{ℕ, _-_, _*_, _%_, _≤_, _<_}
 use native.Mathlib.Omega.{arith}
-use lib.Dec.{eqb}
 use lib.ListN.{length}
 use borrow.Author.Tests.{lt-ltb, le-ltb}
-use Rattle.word_runs.specs.private.WordList.{cell, firstCell}
-use Rattle.word_runs.proofs.Searches.{found-bounds}
+use Rattle.word_runs.specs.private.WordList.{firstCell}
 use Rattle.mask_cells.specs.private.Positions.{rowEnd}
 use Rattle.masks.specs.private.Scan.{scanned, foundAt, noneFrom, nextRun}
 
@@ -31,20 +28,12 @@ startFrom ws at = firstCell 1 ws (scanned (length ws) - at) at
 abbrev pub endFrom : List ℕ → ℕ → ℕ
 endFrom ws s = firstCell 0 ws (rowEnd s - s) s
 
-pub end-bounds : (ws : List ℕ) (s : ℕ) → (s ≤ endFrom ws s) × (endFrom ws s ≤ rowEnd s)
-end-bounds ws s =
-    let (low, high) = found-bounds (λ (k : ℕ). eqb (cell ws k) 0) (rowEnd s - s) s in
-    (low, omega arith)
-
 pub none-found : (ws : List ℕ) (at s : ℕ) → s ≡ startFrom ws at → scanned (length ws) ≤ s → noneFrom at ≡ nextRun ws at
 unfolding nextRun
-none-found ws at s e h =
-    let test = le-ltb (startFrom ws at) (scanned (length ws)) (subst (λ k. scanned (length ws) ≤ k) e h) in
-    sym (ap (λ b. cond b (foundAt (startFrom ws at) (endFrom ws (startFrom ws at))) (noneFrom at)) test)
+none-found ws at s e h = rw (le-ltb (startFrom ws at) (scanned (length ws)) (subst (λ k. scanned (length ws) ≤ k) e h))
 
 pub run-found : (ws : List ℕ) (at s e : ℕ) → s ≡ startFrom ws at → s < scanned (length ws) → e ≡ endFrom ws s → foundAt s e ≡ nextRun ws at
 unfolding nextRun
 run-found ws at s e is h ends =
     let test = lt-ltb (startFrom ws at) (scanned (length ws)) (subst (λ k. k < scanned (length ws)) is h) in
-    ap (foundAt s) ends ∙ ap (λ k. foundAt k (endFrom ws k)) is
-    ∙ sym (ap (λ b. cond b (foundAt (startFrom ws at) (endFrom ws (startFrom ws at))) (noneFrom at)) test)
+    rw test (ap (foundAt s) ends ∙ ap (λ k. foundAt k (endFrom ws k)) is)

@@ -1,14 +1,15 @@
 -- `masks::scan::next_run` meets its contract.
-use mathlib.Core.Path.{_≡_, sym, ap, _∙_, subst}
+use mathlib.Core.Path.{_≡_, ap, _∙_, subst}
 use mathlib.Core.List.{List}
-use Prim.Native.Nat.{ℕ, _-_, _*_, _%_, _≤_, _<_}
+use Prim.Native.Nat.{ℕ, _+_, _/_, _-_, _*_, _≤_, _<_}
 use native.Mathlib.Omega.{arith}
 use borrow.Author.Needs.{needs}
+use lib.Dec.{eqb}
 use lib.ListN.{length}
-use Rattle.word_runs.specs.private.WordList.{firstCell}
-use Rattle.mask_cells.specs.private.Positions.{rowEnd}
+use Rattle.word_runs.specs.private.WordList.{cell, firstCell}
+use Rattle.word_runs.proofs.Searches.{found-bounds}
 use Rattle.masks.specs.private.Scan.{scanned}
-use Rattle.masks.proofs.NextRun.{scanned-bounds, startFrom, end-bounds, none-found, run-found}
+use Rattle.masks.proofs.NextRun.{scanned-bounds, startFrom, none-found, run-found}
 use Rattle.masks.proofs.scan.next_run.Statement.{statement}
 use Rattle.masks.proofs.scan.next_run.Tie as tie
 
@@ -16,16 +17,21 @@ use Rattle.masks.proofs.scan.next_run.Tie as tie
 searched : (ws : List ℕ) (at end s : ℕ) → end ≡ scanned (length ws) → s ≡ firstCell 1 ws (end - at) at → s ≡ startFrom ws at
 searched ws at end s e h = h ∙ ap (λ (n : ℕ). firstCell 1 ws (n - at) at) e
 
--- A start below the end of the positions lies in a row of the mask.
+-- A start below the end of the positions lies in the grid, and in a row of the mask.
 record Inside (ws : List ℕ) (s : ℕ) : Type 0 where
-  row : s < 1048576
-  whole : rowEnd s % 64 ≡ 0
-  within : rowEnd s ≤ 64 * length ws
+  grid : s < 1048576
+  row : s / 1024 * 1024 + 1024 ≤ 64 * length ws
 
 inside : (ws : List ℕ) (end s : ℕ) → end ≡ scanned (length ws) → s < end → Inside ws s
 inside ws end s e h =
     let b = scanned-bounds (length ws) in
-    record { row = omega (arith, b .most); whole = omega arith; within = omega (arith, b .rows, b .within) }
+    record { grid = omega (arith, b .most); row = omega (arith, b .rows, b .within) }
+
+-- A search that ends within 1,024 positions.
+ends-near : (ws : List ℕ) (n s e : ℕ) → n ≤ 1024 → e ≡ firstCell 0 ws n s → (s ≤ e) × (e ≤ s + 1024)
+ends-near ws n s e h is =
+    let (low, high) = found-bounds (λ (k : ℕ). eqb (cell ws k) 0) n s in
+    (omega arith, omega arith)
 
 positions-requires : tie.Need-positions-requires
 positions-requires c κs = search needs
@@ -55,19 +61,17 @@ from-there c =
     inside (end .before .before .args .words .now) (end .positions .result) (c .before .next-bit .result) (end .positions .ensures) (c .if1 .left)
 
 add-next-bit : tie.Need-add-next-bit
-add-next-bit c = record { fits = omega (arith, from-there c .row) }
+add-next-bit c = record { fits = omega (arith, from-there c .grid) }
 
 next-bit-requires-2 : tie.Need-next-bit-requires-2
-next-bit-requires-2 c κs = (from-there c .whole, from-there c .within)
+next-bit-requires-2 c κs = (omega arith, omega (arith, from-there c .row))
 
--- The run that is found ends in its row.
-abbrev run-ends : (c : tie.After-next-bit2) → (c .before .before .next-bit .result ≤ c .next-bit2 .result) × (c .next-bit2 .result ≤ rowEnd (c .before .before .next-bit .result))
-run-ends c =
-    let s = c .before .before .next-bit .result in
-    subst (λ e. (s ≤ e) × (e ≤ rowEnd s)) (sym (c .next-bit2 .ensures)) (end-bounds (c .before .before .before .before .before .args .words .now) s)
+-- The run that is found has at most 1,024 cells.
+abbrev run-ends : (c : tie.After-next-bit2) → (c .before .before .next-bit .result ≤ c .next-bit2 .result) × (c .next-bit2 .result ≤ c .before .before .next-bit .result + 1024)
+run-ends c = ends-near (c .before .before .before .before .before .args .words .now) _ (c .before .before .next-bit .result) (c .next-bit2 .result) (omega arith) (c .next-bit2 .ensures)
 
 cast-t12 : tie.Need-cast-t12
-cast-t12 c = record { fits = omega (arith, from-there (c .before) .row) }
+cast-t12 c = record { fits = omega (arith, from-there (c .before) .grid) }
 
 cast-t13 : tie.Need-cast-t13
 cast-t13 c = search needs
@@ -76,7 +80,7 @@ sub-t11 : tie.Need-sub-t11
 sub-t11 c = run-ends c .0
 
 cast-t14 : tie.Need-cast-t14
-cast-t14 c = record { fits = omega (arith, run-ends c, from-there (c .before) .row) }
+cast-t14 c = record { fits = omega (arith, run-ends c) }
 
 returns-2 : tie.Need-returns-2
 returns-2 c =
