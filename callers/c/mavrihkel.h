@@ -81,7 +81,7 @@ uint32_t mavrihkel_mask_sums(const uint64_t *words, size_t words_length, int64_t
  * Writes the longest possible runs of a mask's marked cells, in order, to the front of `runs`; a run may go on from word to word, but not from row to row. One value: how many were written.
  * The records behind them stay as they were. With a refusal none is written, and the value is 0. Where it is accepted, mavrihkel_region_sums of the written runs are the mask's sums.
  *   31  the length is no multiple of 16, or is over 16,384 (1,024 rows)
- *   8   there would be more than 4,096 runs, or more than `runs_length`
+ *   8   there would be more than 4,096 runs, or more than `runs_length`; a list of 4,096 never is too short
  */
 uint32_t mavrihkel_mask_runs(const uint64_t *words, size_t words_length, struct mavrihkel_run *runs, size_t runs_length,
                              int64_t *out, size_t out_length);

@@ -55,7 +55,7 @@ pub struct CellSums {
     pub yy: i64,
 }
 
-/// The answer of a call whose buffer is too short. No refusal of document 01 has this number.
+/// The answer of a call whose buffer is too short. No refusal of document 01 or 02 has this number.
 pub const SHORT_BUFFER: u32 = 100;
 
 mod linked {
@@ -265,7 +265,7 @@ pub fn region_sums(runs: &[Run]) -> Result<CellSums, RegionRefusal> {
     }
 }
 
-/// The six sums of a mask's marked cells: 16 words a row, rows 0 upwards; bit i of a row's word w, from the lowest, is column 64w + i.
+/// The six sums of a mask's marked cells: 16 words a row, rows 0 upwards; bit i of a row's word w, from the lowest, is column 64w + i. Refused with 31 where the number of words is no multiple of 16 or is over 16,384.
 pub fn mask_sums(words: &[u64]) -> Result<CellSums, Refusal> {
     let mut v = [0; 6];
     let number = mask_sums_into(words, &mut v);
@@ -275,7 +275,7 @@ pub fn mask_sums(words: &[u64]) -> Result<CellSums, Refusal> {
     }
 }
 
-/// Writes the longest possible runs of a mask's marked cells to the front of the list, in order, and gives how many there are. The runs behind them stay as they were, and so do all with a refusal.
+/// Writes the longest possible runs of a mask's marked cells to the front of the list, in order, and gives how many there are. The runs behind them stay as they were, and so do all with a refusal: 31 as for the sums, or 8 where there are more than 4,096 runs or more than the list holds. A list of 4,096 never is too short.
 pub fn mask_runs(words: &[u64], runs: &mut [Run]) -> Result<usize, Refusal> {
     let mut v = [0; 1];
     let number = mask_runs_into(words, runs, &mut v);

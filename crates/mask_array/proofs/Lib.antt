@@ -1,2 +1,3 @@
 mod ArrayParts
 mod ReplyValues
+mod WorkedArrays

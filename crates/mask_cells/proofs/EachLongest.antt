@@ -33,16 +33,16 @@ module _ (ws : List ℕ) where
   longest : (g : ℕ) (r : Run) → Outside ws g → r .first + r .length ≤ 1024 → NextRun ws g (startOf r) (endOf r) (positions ws) → Longest ws r
   longest g r out row next =
       record {
-        filled = filled;
+        nonempty = nonempty;
         in-row = row;
         in-mask = omega (arith, next .within);
         marked = λ x l h. ap (isMarked ws) (sym (cell-of-row (r .row) x (omega arith))) ∙ next .marked (1024 * r .row + x) (omega arith) (omega arith);
-        begins = unmarked-west (r .row) (r .first) (ap (beginsRun ws) (sym (cell-of-row (r .row) (r .first) (omega (arith, filled)))) ∙ begins-there ws out next);
+        begins = unmarked-west (r .row) (r .first) (ap (beginsRun ws) (sym (cell-of-row (r .row) (r .first) (omega (arith, nonempty)))) ∙ begins-there ws out next);
         ends = go (next .stops);
       }
     where
-      filled : 0 < r .length
-      filled = omega (arith, next .filled)
+      nonempty : 0 < r .length
+      nonempty = omega (arith, next .nonempty)
 
       by-column : isMarked ws (cellOf (endOf r)) ≡ false → (r .first + r .length ≡ 1024) ⊎ (r .first + r .length < 1024)
           → (r .first + r .length ≡ 1024) ⊎ (isMarked ws (cellAt (r .row) (r .first + r .length)) ≡ false)
@@ -53,7 +53,7 @@ module _ (ws : List ℕ) where
 
       go : (endOf r ≡ rowEnd (startOf r)) ⊎ (isMarked ws (cellOf (endOf r)) ≡ false)
           → (r .first + r .length ≡ 1024) ⊎ (isMarked ws (cellAt (r .row) (r .first + r .length)) ≡ false)
-      go (inl h) = inl (omega (arith, filled))
+      go (inl h) = inl (omega (arith, nonempty))
       go (inr e) = by-column e (eq-or-lt-of-le row)
 
   longest-from : (g : ℕ) (rs : List Run) → Outside ws g → RunsFrom ws (positions ws) g rs → (i : ℕ) → i < length rs → Longest ws (runAt rs i)

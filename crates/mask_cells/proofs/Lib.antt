@@ -1,9 +1,11 @@
+pub mod Lengths
 pub mod Positions
 pub mod Those
 pub mod RunSteps
 pub mod NextRuns
 pub mod WordCells
 pub mod RowSums
+mod MarkedBits
 mod RunsFrom
 mod RunsCells
 mod NoneTouch

@@ -1,10 +1,13 @@
 -- Both sides of each limit of the refusals 31 and 8, for the sums and for the writer, and the order of the two.
-use Prim.Native.Nat.{ℕ}
-use mathlib.Core.Path.{_≡_, refl, sym, _∙_}
-use mathlib.Core.Bool.{true, false}
+use Prim.Native.Nat.{ℕ, _+_, _*_, _/_, _%_, _≤_, _<_}
+use mathlib.Core.Path.{_≡_, refl, ap}
+use mathlib.Core.Bool.{true, false, not}
 use mathlib.Core.List.{List, [], _∷_, _++_}
+use native.Mathlib.Omega.{arith}
 use lib.IntN.{pos}
-use lib.ListN.{length, replicate, length-replicate}
+use lib.ListN.{length, replicate}
+use borrow.Author.Tests.{lt-ltb, le-ltb, eq-eqb, ne-eqb}
+use Rattle.integers.proofs.Flags.{neither}
 use Rattle.word_runs.specs.Bits.{firstWhere}
 use Rattle.cells.specs.declared.Run.{Run}
 use Rattle.cells.specs.CellSums.{cellsFrom}
@@ -19,28 +22,32 @@ record Refused (n : ℕ) : Type 0 where
   sums : (ws : List ℕ) → length ws ≡ n → maskSumsCall ws ≡ record { number = 31; sums = record { count = pos 0; x = pos 0; y = pos 0; xx = pos 0; xy = pos 0; yy = pos 0 } }
   runs : (ws : List ℕ) → length ws ≡ n → (before : List Run) → maskRunsCall ws before ≡ record { number = 31; index = 0; count = 0; list = before }
 
--- The sums of a mask of n words are never refused, and the writer is not refused with 31.
+-- The sums of a mask of n words are never refused; nor is the writer, where its runs are not too many.
 record Taken (n : ℕ) : Type 0 where
   sums : (ws : List ℕ) → length ws ≡ n → maskSumsCall ws .number ≡ 0
   runs : (ws : List ℕ) → length ws ≡ n → (before : List Run) → tooManyFor before (longestRuns ws) ≡ false → maskRunsCall ws before .number ≡ 0
 
--- The test for 31 looks at the number of words alone.
-by-length : (ws us : List ℕ) → length ws ≡ length us → wrongLength ws ≡ wrongLength us
+-- The test looks at the number of words alone, so n tells what holds of every mask of n words.
+refused-as : (n : ℕ) → wrongLength n ≡ true → Refused n
+unfolding maskSumsCall maskRunsCall
+refused-as n e = record { sums = λ ws l. rw (l, e); runs = λ ws l before. rw (l, e) }
+
+taken-as : (n : ℕ) → wrongLength n ≡ false → Taken n
+unfolding maskSumsCall maskRunsCall
+taken-as n e = record { sums = λ ws l. rw (l, e); runs = λ ws l before few. rw (l, e, few) }
+
+-- Whole rows up to 1,024 are taken; more rows, and a part of a row, are refused.
+rows-taken : (n : ℕ) → n ≤ 1024 → Taken (16 * n)
 unfolding wrongLength
-by-length ws us e = rw e
+rows-taken n h = taken-as (16 * n) (neither (ap not (eq-eqb (16 * n % 16) 0 (omega arith))) (le-ltb 1024 (16 * n / 16) (omega arith)))
 
--- So one mask of n words tells what holds of all.
-refused-as : (n : ℕ) → wrongLength (replicate n 0) ≡ true → Refused n
-unfolding maskSumsCall maskRunsCall
-refused-as n e =
-    let same : (ws : List ℕ) → length ws ≡ n → wrongLength ws ≡ true = λ ws l. by-length ws (replicate n 0) (l ∙ sym (length-replicate n 0)) ∙ e in
-    record { sums = λ ws l. rw (same ws l); runs = λ ws l before. rw (same ws l) }
+more-rows-refused : (n : ℕ) → 1024 < n → Refused (16 * n)
+unfolding wrongLength
+more-rows-refused n h = refused-as (16 * n) (rw (eq-eqb (16 * n % 16) 0 (omega arith), lt-ltb 1024 (16 * n / 16) (omega arith)))
 
-taken-as : (n : ℕ) → wrongLength (replicate n 0) ≡ false → Taken n
-unfolding maskSumsCall maskRunsCall
-taken-as n e =
-    let same : (ws : List ℕ) → length ws ≡ n → wrongLength ws ≡ false = λ ws l. by-length ws (replicate n 0) (l ∙ sym (length-replicate n 0)) ∙ e in
-    record { sums = λ ws l. rw (same ws l); runs = λ ws l before few. rw (same ws l, few) }
+part-refused : (n r : ℕ) → 0 < r → r < 16 → Refused (16 * n + r)
+unfolding wrongLength
+part-refused n r l h = refused-as (16 * n + r) (rw (ne-eqb ((16 * n + r) % 16) 0 (λ e. omega arith)))
 
 record Lengths : Type 0 where
   no-rows : Taken 0

@@ -21,7 +21,7 @@ runsBy a b before n after = cond a (nothingWritten 31 before) (cond b (nothingWr
 
 sums-zeros : (ws : List ℕ) → maskSumsCall ws .number ≢ 0 → maskSumsCall ws .sums ≡ zeros
 unfolding maskSumsCall
-sums-zeros ws f = go (wrongLength ws) (sumsOver (markedCells ws)) f
+sums-zeros ws f = go (wrongLength (length ws)) (sumsOver (markedCells ws)) f
   where
     go : (a : Bool) (s : CellSums) → sumsBy a s .number ≢ 0 → sumsBy a s .sums ≡ zeros
     go true s f = refl
@@ -29,7 +29,7 @@ sums-zeros ws f = go (wrongLength ws) (sumsOver (markedCells ws)) f
 
 nothing-written : (ws : List ℕ) (before : List Run) → maskRunsCall ws before .number ≢ 0 → maskRunsCall ws before ≡ record { number = maskRunsCall ws before .number; index = 0; count = 0; list = before }
 unfolding maskRunsCall
-nothing-written ws before f = go (wrongLength ws) (tooManyFor before (longestRuns ws)) (length (longestRuns ws)) (longestRuns ws ++ drop (length (longestRuns ws)) before) f
+nothing-written ws before f = go (wrongLength (length ws)) (tooManyFor before (longestRuns ws)) (length (longestRuns ws)) (longestRuns ws ++ drop (length (longestRuns ws)) before) f
   where
     go : (a b : Bool) (n : ℕ) (after : List Run) → runsBy a b before n after .number ≢ 0 → runsBy a b before n after ≡ record { number = runsBy a b before n after .number; index = 0; count = 0; list = before }
     go true b n after f = refl

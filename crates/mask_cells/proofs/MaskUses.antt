@@ -4,15 +4,17 @@ use mathlib.Core.Bool.{true, false}
 use mathlib.Core.List.{List, [], _∷_, _++_}
 use mathlib.Core.Logic.{_⊎_, _≢_}
 use Prim.Native.Nat.{ℕ, _+_, _-_, _*_, _/_, _%_, _≤_, _<_}
+use lib.Dec.{eqb}
 use lib.IntN.{pos}
 use lib.ListN.{length, getD, take, drop}
-use Rattle.word_runs.specs.Bits.{onesBelow}
+use Rattle.word_runs.specs.Bits.{bit, onesBelow}
 use Rattle.cells.specs.declared.Run.{Run}
 use Rattle.cells.specs.CellSums.{cellsFrom, allCells, zeros, sumsOver}
 use Rattle.cells.specs.RegionCall.{tooMany, regionCall, runAt}
 use Rattle.mask_cells.specs.MaskCells.{cellAt, isMarked, those, markedCells, longestRuns}
 use Rattle.mask_cells.specs.MaskCalls.{MaskSumsOutcome, wrongLength, maskSumsCall, maskRunsCall}
 use Rattle.mask_cells.specs.MaskLaws.{onesIn}
+use Rattle.mask_cells.proofs.MarkedBits.{marked-bits}
 use Rattle.mask_cells.proofs.RunsCells.{runs-cells}
 use Rattle.mask_cells.proofs.NoneTouch.{none-touch}
 use Rattle.mask_cells.proofs.EachLongest.{each-longest}
@@ -31,6 +33,9 @@ module _ (ws : List ℕ) where
 
   abbrev at : ℕ → Run
   at i = runAt runs i
+
+  column-by-word : (y w i : ℕ) → w < 16 → i < 64 → isMarked ws (cellAt y (64 * w + i)) ≡ eqb (bit (getD ws (16 * y + w) 0) i) 1
+  column-by-word y w i h l = marked-bits ws y w h i l
 
   same-cells : allCells runs ≡ markedCells ws
   same-cells = runs-cells ws
@@ -52,19 +57,22 @@ module _ (ws : List ℕ) where
       → allCells rs ≡ markedCells ws → rs ≡ runs
   no-other-list = only-longest ws
 
-  accepted : wrongLength ws ≡ false → tooMany runs ≡ false → (i : ℕ) → regionCall runs i ≡ record { number = 0; index = 0; sums = sumsOver (markedCells ws) }
+  accepted : wrongLength (length ws) ≡ false → tooMany runs ≡ false → (i : ℕ) → regionCall runs i ≡ record { number = 0; index = 0; sums = sumsOver (markedCells ws) }
   accepted = runs-accepted ws
 
   ones-of-a-word : (k : ℕ) → length (those (isMarked ws) (cellsFrom (k / 16) (64 * (k % 16)) 64)) ≡ onesBelow 64 (getD ws k 0)
   ones-of-a-word = ones-in-word ws
 
-  ones-of-all : length ws % 16 ≡ 0 → sumsOver (markedCells ws) .count ≡ pos (onesIn ws)
+  ones-of-all : maskSumsCall ws .number ≡ 0 → maskSumsCall ws .sums .count ≡ pos (onesIn ws)
   ones-of-all = ones-counted ws
 
   module _ (before : List Run) where
     both-calls : maskRunsCall ws before .number ≡ 0 → (i : ℕ)
         → regionCall (take (maskRunsCall ws before .count) (maskRunsCall ws before .list)) i ≡ record { number = maskSumsCall ws .number; index = 0; sums = maskSumsCall ws .sums }
     both-calls h i = written-region ws before h .sums i ∙ ap (λ n. record { number = n; index = 0; sums = maskSumsCall ws .sums }) (sym (written-region ws before h .mask-accepted))
+
+    all-counted : maskRunsCall ws before .number ≡ 0 → maskRunsCall ws before .count ≡ length runs
+    all-counted h = written-region ws before h .count
 
     behind : maskRunsCall ws before .number ≡ 0 → maskRunsCall ws before .list ≡ runs ++ drop (maskRunsCall ws before .count) before
     behind h = written-region ws before h .list

@@ -8,7 +8,7 @@ use native.Mathlib.Nat.{eq-or-lt-of-le}
 use native.Mathlib.Omega.{arith}
 use lib.Dec.{eqb}
 use borrow.Author.Tests.{eqb-true, eqb-false, eq-eqb, ne-eqb}
-use Rattle.word_runs.specs.private.WordList.{cell, firstCell}
+use Rattle.word_runs.specs.private.WordList.{bitAt, firstBit}
 use Rattle.word_runs.proofs.Searches.{found-bounds, found-holds, none-before}
 use Rattle.mask_cells.specs.MaskCells.{isMarked}
 use Rattle.mask_cells.specs.private.Positions.{cellOf, rowEnd}
@@ -18,29 +18,29 @@ use Rattle.mask_cells.proofs.RunSteps.{NextRun}
 
 module _ (ws : List ℕ) where
   -- A clear bit marks no cell, and a bit that is not clear marks one.
-  clear-unmarked : (k : ℕ) → eqb (cell ws k) 0 ≡ true → isMarked ws (cellOf k) ≡ false
-  clear-unmarked k e = let clear = eqb-true (cell ws k) 0 e in marked-at ws k ∙ ne-eqb (cell ws k) 1 (λ set. omega arith)
+  clear-unmarked : (k : ℕ) → eqb (bitAt ws k) 0 ≡ true → isMarked ws (cellOf k) ≡ false
+  clear-unmarked k e = let clear = eqb-true (bitAt ws k) 0 e in marked-at ws k ∙ ne-eqb (bitAt ws k) 1 (λ set. omega arith)
 
-  set-marked : (k : ℕ) → eqb (cell ws k) 0 ≡ false → isMarked ws (cellOf k) ≡ true
-  set-marked k e = let set : cell ws k ≡ 1 = go (eqb-false (cell ws k) 0 e) in marked-at ws k ∙ eq-eqb (cell ws k) 1 set
+  set-marked : (k : ℕ) → eqb (bitAt ws k) 0 ≡ false → isMarked ws (cellOf k) ≡ true
+  set-marked k e = let set : bitAt ws k ≡ 1 = go (eqb-false (bitAt ws k) 0 e) in marked-at ws k ∙ eq-eqb (bitAt ws k) 1 set
     where
-      go : (cell ws k ≡ 0 → ⊥) → cell ws k ≡ 1
+      go : (bitAt ws k ≡ 0 → ⊥) → bitAt ws k ≡ 1
       go not-clear = omega arith
 
   -- The positions before the first set bit.
-  none-marked : (g n : ℕ) → Throughout (isMarked ws) false g (firstCell 1 ws n g - g)
-  none-marked g n k l h = marked-at ws k ∙ none-before (λ j. eqb (cell ws j) 1) n g k l (omega (arith, found-bounds (λ j. eqb (cell ws j) 1) n g))
+  none-marked : (g n : ℕ) → Throughout (isMarked ws) false g (firstBit 1 ws n g - g)
+  none-marked g n k l h = marked-at ws k ∙ none-before (λ j. eqb (bitAt ws j) 1) n g k l (omega (arith, found-bounds (λ j. eqb (bitAt ws j) 1) n g))
 
   -- No set bit below the end: no marked position.
-  pub none-next : (g end : ℕ) → g ≤ end → end ≤ firstCell 1 ws (end - g) g → Throughout (isMarked ws) false g (end - g)
+  pub none-next : (g end : ℕ) → g ≤ end → end ≤ firstBit 1 ws (end - g) g → Throughout (isMarked ws) false g (end - g)
   none-next g end h none k l m = none-marked g (end - g) k l (omega arith)
 
   -- A set bit below the end, of a mask of whole rows: the run from there up to the first clear bit, or up to the end of the row.
-  pub next-found : (g s e end : ℕ) → end % 1024 ≡ 0 → s ≡ firstCell 1 ws (end - g) g → s < end → e ≡ firstCell 0 ws (rowEnd s - s) s → NextRun ws g s e end
+  pub next-found : (g s e end : ℕ) → end % 1024 ≡ 0 → s ≡ firstBit 1 ws (end - g) g → s < end → e ≡ firstBit 0 ws (rowEnd s - s) s → NextRun ws g s e end
   next-found g s e end whole at-s below at-e =
       record {
         from = from;
-        filled = go (eq-or-lt-of-le start);
+        nonempty = go (eq-or-lt-of-le start);
         in-row = in-row;
         within = omega (arith, in-row);
         unmarked = subst (λ t. Throughout (isMarked ws) false g (t - g)) (sym at-s) (none-marked g (end - g));
@@ -49,10 +49,10 @@ module _ (ws : List ℕ) where
       }
     where
       clear : ℕ → Bool
-      clear k = eqb (cell ws k) 0
+      clear k = eqb (bitAt ws k) 0
 
       from : g ≤ s
-      from = omega (arith, found-bounds (λ k. eqb (cell ws k) 1) (end - g) g)
+      from = omega (arith, found-bounds (λ k. eqb (bitAt ws k) 1) (end - g) g)
 
       start : s ≤ e
       start = omega (arith, found-bounds clear (rowEnd s - s) s)
@@ -63,11 +63,11 @@ module _ (ws : List ℕ) where
       clear-there : e < rowEnd s → clear e ≡ true
       clear-there h = subst (λ t. clear t ≡ true) (sym at-e) (found-holds clear (rowEnd s - s) s (omega arith))
 
-      set-there : eqb (cell ws s) 1 ≡ true
-      set-there = subst (λ t. eqb (cell ws t) 1 ≡ true) (sym at-s) (found-holds (λ k. eqb (cell ws k) 1) (end - g) g (omega arith))
+      set-there : eqb (bitAt ws s) 1 ≡ true
+      set-there = subst (λ t. eqb (bitAt ws t) 1 ≡ true) (sym at-s) (found-holds (λ k. eqb (bitAt ws k) 1) (end - g) g (omega arith))
 
       not-clear : clear s ≡ true → ⊥
-      not-clear h = let set = eqb-true (cell ws s) 1 set-there in let unset = eqb-true (cell ws s) 0 h in omega arith
+      not-clear h = let set = eqb-true (bitAt ws s) 1 set-there in let unset = eqb-true (bitAt ws s) 0 h in omega arith
 
       go : (s ≡ e) ⊎ (s < e) → s < e
       go (inl h) = absurd (not-clear (subst (λ t. clear t ≡ true) (sym h) (clear-there (omega arith))))

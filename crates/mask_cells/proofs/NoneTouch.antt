@@ -59,7 +59,7 @@ module _ (ws : List ℕ) (end : ℕ) where
     where
       -- A cell that the later run has is marked.
       marked-there : isMarked ws (cellOf (startOf r)) ≡ true
-      marked-there = then .marked (startOf r) (omega arith) (omega (arith, then .filled))
+      marked-there = then .marked (startOf r) (omega arith) (omega (arith, then .nonempty))
 
       by-row : endOf p < startOf r → (p .row ≡ r .row) ⊎ (p .row < r .row) → Apart p r
       by-row h (inl same) = inr (same, omega arith)
@@ -67,10 +67,10 @@ module _ (ws : List ℕ) (end : ℕ) where
 
       by-place : isMarked ws (cellOf (endOf p)) ≡ false → (endOf p ≡ startOf r) ⊎ (endOf p < startOf r) → Apart p r
       by-place e (inl same) = absurd (false≢true (sym e ∙ ap (λ k. isMarked ws (cellOf k)) same ∙ marked-there))
-      by-place e (inr behind) = by-row behind (eq-or-lt-of-le (omega (arith, then .filled, next .filled)))
+      by-place e (inr behind) = by-row behind (eq-or-lt-of-le (omega (arith, then .nonempty, next .nonempty)))
 
       go : (endOf p ≡ rowEnd (startOf p)) ⊎ (isMarked ws (cellOf (endOf p)) ≡ false) → Apart p r
-      go (inl at-end) = inl (omega (arith, then .from, then .filled, next .filled))
+      go (inl at-end) = inl (omega (arith, then .from, then .nonempty, next .nonempty))
       go (inr e) = by-place e (eq-or-lt-of-le (then .from))
 
   in-turn-from : (g : ℕ) (rs : List Run) → RunsFrom ws end g rs → ApartInTurn rs

@@ -1,5 +1,6 @@
 -- The marked cells of a word are as many as its ones, and those of a mask of whole rows as many as the ones of all its words.
 use mathlib.Core.Path.{_≡_, refl, sym, ap, ap₂, _∙_}
+use mathlib.Core.Bool.{Bool, true, false, cond}
 use mathlib.Core.List.{List, [], _∷_}
 use Prim.Native.Nat.{ℕ, suc, _+_, _*_, _/_, _%_}
 use native.Mathlib.Nat.{add-zero}
@@ -7,9 +8,12 @@ use native.Mathlib.Omega.{arith}
 use lib.IntN.{pos}
 use lib.ListN.{length, getD, length-append}
 use Rattle.word_runs.specs.Bits.{onesBelow}
+use Rattle.cells.specs.CellSums.{zeros, sumsOver}
 use Rattle.mask_cells.specs.MaskCells.{isMarked, those, markedCells}
+use Rattle.mask_cells.specs.MaskCalls.{MaskSumsOutcome, wrongLength, maskSumsCall}
 use Rattle.mask_cells.specs.MaskLaws.{OnesInWord, onesIn, OnesCounted}
 use Rattle.mask_cells.specs.private.Positions.{cellsOn}
+use Rattle.mask_cells.proofs.Lengths.{whole-rows}
 use Rattle.mask_cells.proofs.Positions.{positions, grid-cells, row-cells}
 use Rattle.mask_cells.proofs.Those.{in-parts}
 use Rattle.mask_cells.proofs.WordCells.{word-cells, counted, count-cells}
@@ -45,10 +49,22 @@ ones-in-word ws k =
     ap (λ cs. length (those (isMarked ws) cs)) (row-cells (k / 16) (64 * (k % 16)) 64 (omega arith) ∙ ap (λ g. cellsOn g 64) start)
     ∙ marked-word ws k
 
-pub ones-counted : OnesCounted
+-- Of a mask of whole rows.
+whole-mask : (ws : List ℕ) → length ws % 16 ≡ 0 → sumsOver (markedCells ws) .count ≡ pos (onesIn ws)
 unfolding markedCells
-ones-counted ws whole =
+whole-mask ws whole =
     let all : positions ws ≡ 64 * length ws = omega arith in
     let same : (j : ℕ) → getD ws (0 + j) 0 ≡ getD ws j 0 = λ j. let plain : 0 + j ≡ j = omega arith in ap (λ i. getD ws i 0) plain in
     count-cells (markedCells ws)
     ∙ ap pos (ap (λ cs. length (those (isMarked ws) cs)) (grid-cells ws ∙ ap (cellsOn 0) all) ∙ ones-of ws 0 ws same)
+
+pub ones-counted : OnesCounted
+unfolding maskSumsCall
+ones-counted ws = go (wrongLength (length ws)) refl
+  where
+    given : Bool → MaskSumsOutcome
+    given b = cond b (record { number = 31; sums = zeros }) (record { number = 0; sums = sumsOver (markedCells ws) })
+
+    go : (b : Bool) → wrongLength (length ws) ≡ b → given b .number ≡ 0 → given b .sums .count ≡ pos (onesIn ws)
+    go true wrong h = absurd (omega arith)
+    go false right h = whole-mask ws (whole-rows (length ws) right)

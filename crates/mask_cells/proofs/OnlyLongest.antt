@@ -43,8 +43,8 @@ Behind y e [] = Unit {0}
 Behind y e (r ∷ rs) = (0 < r .length) × ((y < r .row) ⊎ ((y ≡ r .row) × (e < r .first)))
 
 behind-run : (r : Run) (rs : List Run) → NoneEmpty rs → NextApart r rs → Behind (r .row) (r .first + r .length) rs
-behind-run r [] filled apart = tt
-behind-run r (q ∷ qs) filled apart = (filled 0 (omega arith), apart)
+behind-run r [] nonempty apart = tt
+behind-run r (q ∷ qs) nonempty apart = (nonempty 0 (omega arith), apart)
 
 elsewhere : (y x : ℕ) (rs : List Run) (cs : List Cell) → Behind y x rs → allCells rs ≡ cellAt y x ∷ cs → ⊥
 unfolding allCells
@@ -89,5 +89,5 @@ same-runs (r ∷ rs) (q ∷ qs) f g (next, a) (next′, b) e =
     ap₂ _∷_ (λ i. record { row = sym row i; first = sym first i; length = as-long i }) (same-runs rs qs later-f later-g a b rest)
 
 pub only-longest : OnlyLongest
-only-longest ws rs filled apart e =
-    same-runs rs (longestRuns ws) filled (λ i h. each-longest ws i h .filled) (apart-in-turn rs apart) (longest-in-turn ws) (e ∙ sym (runs-cells ws))
+only-longest ws rs nonempty apart e =
+    same-runs rs (longestRuns ws) nonempty (λ i h. each-longest ws i h .nonempty) (apart-in-turn rs apart) (longest-in-turn ws) (e ∙ sym (runs-cells ws))

@@ -7,7 +7,7 @@ use native.Mathlib.Omega.{arith}
 use lib.Dec.{eqb}
 use lib.ListN.{length, getD}
 use Rattle.word_runs.specs.Bits.{bit}
-use Rattle.word_runs.specs.private.WordList.{cell}
+use Rattle.word_runs.specs.private.WordList.{bitAt}
 use Rattle.cells.specs.CellSums.{cellsFrom}
 use Rattle.mask_cells.specs.MaskCells.{cellAt, isMarked, rowsFrom, maskGrid}
 use Rattle.mask_cells.specs.private.Positions.{cellOf, cellsOn}
@@ -57,7 +57,7 @@ grid-cells ws = rows-cells 0 (length ws / 16)
 
 -- ---- which positions are marked
 
-pub marked-at : (ws : List ℕ) (g : ℕ) → isMarked ws (cellOf g) ≡ eqb (cell ws g) 1
+pub marked-at : (ws : List ℕ) (g : ℕ) → isMarked ws (cellOf g) ≡ eqb (bitAt ws g) 1
 unfolding isMarked
 marked-at ws g =
     let word : 16 * (g / 1024) + g % 1024 / 64 ≡ g / 64 = omega arith in

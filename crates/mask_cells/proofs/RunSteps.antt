@@ -57,7 +57,7 @@ module _ (ws : List ℕ) where
   -- The positions from s up to e are the first longest run from g on, in a mask of so many positions.
   pub record NextRun (g s e end : ℕ) : Type 0 where
     pub from : g ≤ s
-    pub filled : s < e
+    pub nonempty : s < e
     pub in-row : e ≤ rowEnd s
     pub within : e ≤ end
     pub unmarked : Throughout (isMarked ws) false g (s - g)
@@ -72,7 +72,7 @@ module _ (ws : List ℕ) where
       go (inr h) = outside-unmarked e h
 
   pub begins-there : {g s e end : ℕ} → Outside g → NextRun g s e end → beginsRun ws (cellOf s) ≡ true
-  begins-there {g} {s} {e} {end} out r = go s refl (eq-or-lt-of-le (r .from)) ∙ r .marked s (omega arith) (omega (arith, r .filled))
+  begins-there {g} {s} {e} {end} out r = go s refl (eq-or-lt-of-le (r .from)) ∙ r .marked s (omega arith) (omega (arith, r .nonempty))
     where
       go : (t : ℕ) → t ≡ s → (g ≡ s) ⊎ (g < s) → Outside s
       go t same (inl h) = subst Outside h out
@@ -82,15 +82,15 @@ module _ (ws : List ℕ) where
   begun : {g s e end : ℕ} → Outside g → NextRun g s e end → those (beginsRun ws) (cellsOn g (end - g)) ≡ cellOf s ∷ those (beginsRun ws) (cellsOn e (end - e))
   unfolding those cellsOn
   begun {g} {s} {e} {end} out r =
-      let more : end - s ≡ suc (end - suc s) = omega (arith, r .filled, r .within) in
-      skipped (beginsRun ws) g s end (r .from) (omega (arith, r .filled, r .within)) (λ k l h. none-unmarked k (r .unmarked k l h))
+      let more : end - s ≡ suc (end - suc s) = omega (arith, r .nonempty, r .within) in
+      skipped (beginsRun ws) g s end (r .from) (omega (arith, r .nonempty, r .within)) (λ k l h. none-unmarked k (r .unmarked k l h))
       ∙ ap (λ n. those (beginsRun ws) (cellsOn s n)) more
       ∙ ap (λ b. cond b (cellOf s ∷ those (beginsRun ws) (cellsOn (suc s) (end - suc s))) (those (beginsRun ws) (cellsOn (suc s) (end - suc s)))) (begins-there out r)
-      ∙ ap (λ cs. cellOf s ∷ cs) (skipped (beginsRun ws) (suc s) e end (r .filled) (r .within) inside)
+      ∙ ap (λ cs. cellOf s ∷ cs) (skipped (beginsRun ws) (suc s) e end (r .nonempty) (r .within) inside)
     where
       inside : Throughout (beginsRun ws) false (suc s) (e - suc s)
       inside zero l h = absurd (omega arith)
-      inside (suc k) l h = none-inside k (omega (arith, r .filled, r .in-row)) (r .marked k (omega arith) (omega (arith, r .filled)))
+      inside (suc k) l h = none-inside k (omega (arith, r .nonempty, r .in-row)) (r .marked k (omega arith) (omega (arith, r .nonempty)))
 
   run-is : {g s e end : ℕ} → NextRun g s e end → runFrom ws (cellOf s) ≡ runBetween s e
   unfolding endColumn
@@ -103,7 +103,7 @@ module _ (ws : List ℕ) where
       at-column x h = ap (λ c. not (isMarked ws c)) (sym (cell-of-row (s / 1024) x h))
 
       goes : (j : ℕ) → s % 1024 ≤ j → j < e - 1024 * (s / 1024) → stop j ≡ false
-      goes j l h = at-column j (omega (arith, r .in-row)) ∙ ap not (r .marked (1024 * (s / 1024) + j) (omega arith) (omega (arith, r .filled)))
+      goes j l h = at-column j (omega (arith, r .in-row)) ∙ ap not (r .marked (1024 * (s / 1024) + j) (omega arith) (omega (arith, r .nonempty)))
 
       ends : (e ≡ rowEnd s) ⊎ (isMarked ws (cellOf e) ≡ false) → (e - 1024 * (s / 1024) ≡ s % 1024 + (1024 - s % 1024)) ⊎ (stop (e - 1024 * (s / 1024)) ≡ true)
       ends (inl h) = inl (omega arith)
@@ -112,11 +112,11 @@ module _ (ws : List ℕ) where
           by-place : (e ≡ rowEnd s) ⊎ (e < rowEnd s) → (e - 1024 * (s / 1024) ≡ s % 1024 + (1024 - s % 1024)) ⊎ (stop (e - 1024 * (s / 1024)) ≡ true)
           by-place (inl k) = inl (omega arith)
           by-place (inr k) =
-              let same : 1024 * (s / 1024) + (e - 1024 * (s / 1024)) ≡ e = omega (arith, r .filled) in
-              inr (at-column (e - 1024 * (s / 1024)) (omega (arith, r .filled)) ∙ ap (λ p. not (isMarked ws (cellOf p))) same ∙ ap not h)
+              let same : 1024 * (s / 1024) + (e - 1024 * (s / 1024)) ≡ e = omega (arith, r .nonempty) in
+              inr (at-column (e - 1024 * (s / 1024)) (omega (arith, r .nonempty)) ∙ ap (λ p. not (isMarked ws (cellOf p))) same ∙ ap not h)
 
       column : firstWhere stop (1024 - s % 1024) (s % 1024) ≡ e - 1024 * (s / 1024)
-      column = found-at stop (1024 - s % 1024) (s % 1024) (e - 1024 * (s / 1024)) (omega (arith, r .filled)) (omega (arith, r .in-row)) goes (ends (r .stops))
+      column = found-at stop (1024 - s % 1024) (s % 1024) (e - 1024 * (s / 1024)) (omega (arith, r .nonempty)) (omega (arith, r .in-row)) goes (ends (r .stops))
 
   -- ---- the runs from a position on
 

@@ -3,18 +3,17 @@ use mathlib.Core.Path.{_≡_, refl, ap}
 use mathlib.Core.Bool.{true, false, not}
 use mathlib.Core.List.{List, [], _∷_}
 use mathlib.Core.Logic.{inl, inr}
-use Prim.Native.Nat.{ℕ, suc, _+_, _/_, _%_, _≤_, _<_}
+use Prim.Native.Nat.{ℕ, suc, _+_, _/_, _≤_, _<_}
 use native.Mathlib.Omega.{arith}
-use lib.Dec.{ltb, eqb}
 use lib.ListN.{length}
-use borrow.Author.Tests.{ltb-false, lt-ltb, le-ltb, le-leb, eq-eqb, ne-eqb}
-use Rattle.integers.proofs.Flags.{or-right, neither}
+use borrow.Author.Tests.{lt-ltb, le-ltb, le-leb, eq-eqb, ne-eqb}
+use Rattle.integers.proofs.Flags.{neither}
 use Rattle.cells.specs.declared.Run.{Run}
 use Rattle.cells.specs.CellSums.{sumsOver}
 use Rattle.cells.specs.RegionCall.{badRun, anyBad, liesAfter, disordered, regionCall, runAt}
 use Rattle.mask_cells.specs.MaskCells.{longestRuns}
-use Rattle.mask_cells.specs.MaskCalls.{wrongLength}
 use Rattle.mask_cells.specs.MaskLaws.{Apart, Longest, RunsAccepted}
+use Rattle.mask_cells.proofs.Lengths.{rows-in-grid}
 use Rattle.mask_cells.proofs.NoneTouch.{ApartInTurn, longest-in-turn}
 use Rattle.mask_cells.proofs.EachLongest.{each-longest}
 use Rattle.mask_cells.proofs.RunsCells.{runs-cells}
@@ -23,7 +22,7 @@ use Rattle.mask_cells.proofs.RunsCells.{runs-cells}
 
 longest-good : (ws : List ℕ) (r : Run) → length ws / 16 ≤ 1024 → Longest ws r → badRun r ≡ false
 unfolding badRun
-longest-good ws r h l = neither (neither (le-ltb 1023 (r .row) (omega (arith, l .in-mask))) (ne-eqb (r .length) 0 (λ e. omega (arith, l .filled)))) (le-ltb 1024 (r .first + r .length) (l .in-row))
+longest-good ws r h l = neither (neither (le-ltb 1023 (r .row) (omega (arith, l .in-mask))) (ne-eqb (r .length) 0 (λ e. omega (arith, l .nonempty)))) (le-ltb 1024 (r .first + r .length) (l .in-row))
 
 none-bad : (rs : List Run) → ((i : ℕ) → i < length rs → badRun (runAt rs i) ≡ false) → anyBad rs ≡ false
 unfolding anyBad
@@ -45,13 +44,9 @@ apart-ordered (r ∷ q ∷ rs) (apart, a) = neither (ap not (apart-after r q apa
 
 -- ---- the call
 
-few-rows : (ws : List ℕ) → wrongLength ws ≡ false → length ws / 16 ≤ 1024
-unfolding wrongLength
-few-rows ws e = ltb-false 1024 (length ws / 16) (or-right (not (eqb (length ws % 16) 0)) (ltb 1024 (length ws / 16)) e)
-
 pub runs-accepted : RunsAccepted
 unfolding regionCall
 runs-accepted ws right few i =
-    let good = none-bad (longestRuns ws) (λ k h. longest-good ws (runAt (longestRuns ws) k) (few-rows ws right) (each-longest ws k h)) in
+    let good = none-bad (longestRuns ws) (λ k h. longest-good ws (runAt (longestRuns ws) k) (rows-in-grid (length ws) right) (each-longest ws k h)) in
     let ordered = apart-ordered (longestRuns ws) (longest-in-turn ws) in
     rw (few, good, ordered) (ap (λ cs. record { number = 0; index = 0; sums = sumsOver cs }) (runs-cells ws))

@@ -7,7 +7,7 @@ use Prim.Native.Nat.{ℕ, zero, suc, _+_, _-_, _*_, _/_, _%_, _≤_, _<_}
 use native.Mathlib.Nat.{eq-or-lt-of-le}
 use native.Mathlib.Omega.{arith}
 use lib.Dec.{eqb}
-use Rattle.word_runs.specs.private.WordList.{cell, firstCell}
+use Rattle.word_runs.specs.private.WordList.{bitAt, firstBit}
 use Rattle.word_runs.proofs.Searches.{found-bounds}
 use Rattle.cells.specs.declared.Run.{Run}
 use Rattle.mask_cells.specs.MaskCells.{isMarked, those, beginsRun, runFrom, longestRuns}
@@ -34,7 +34,7 @@ module _ (ws : List ℕ) (end : ℕ) where
   by-row : {g s e : ℕ} → NextRun ws g s e end → NextRun ws g (startOf (runBetween s e)) (endOf (runBetween s e)) end
   by-row {g} {s} {e} r =
       let start : s ≡ 1024 * (s / 1024) + s % 1024 = omega arith in
-      let behind : e ≡ 1024 * (s / 1024) + s % 1024 + (e - s) = omega (arith, r .filled) in
+      let behind : e ≡ 1024 * (s / 1024) + s % 1024 + (e - s) = omega (arith, r .nonempty) in
       subst (λ t. NextRun ws g (1024 * (s / 1024) + s % 1024) t end) behind (subst (λ t. NextRun ws g t e end) start r)
 
   pub first-runs : (n g : ℕ) → end % 1024 ≡ 0 → end - g ≤ n → g ≤ end → Outside ws g → RunsFrom g (runsOn ws g end)
@@ -42,18 +42,18 @@ module _ (ws : List ℕ) (end : ℕ) where
     where
       none : Throughout (isMarked ws) false g (end - g)
       none k l m = absurd (omega arith)
-  first-runs (suc n) g whole bound h out = go (eq-or-lt-of-le (found-bounds (λ k. eqb (cell ws k) 1) (end - g) g .1)) (λ p. first-runs n p whole)
+  first-runs (suc n) g whole bound h out = go (eq-or-lt-of-le (found-bounds (λ k. eqb (bitAt ws k) 1) (end - g) g .1)) (λ p. first-runs n p whole)
     where
       s : ℕ
-      s = firstCell 1 ws (end - g) g
+      s = firstBit 1 ws (end - g) g
 
       go : (s ≡ g + (end - g)) ⊎ (s < g + (end - g)) → ((p : ℕ) → end - p ≤ n → p ≤ end → Outside ws p → RunsFrom p (runsOn ws p end)) → RunsFrom g (runsOn ws g end)
       go (inl none) behind = let unmarked = none-next ws g end h (omega arith) in subst (RunsFrom g) (sym (runs-none ws g end unmarked)) unmarked
       go (inr below) behind =
-          let e = firstCell 0 ws (rowEnd s - s) s in
+          let e = firstBit 0 ws (rowEnd s - s) s in
           let next : NextRun ws g s e end = next-found ws g s e end whole refl (omega arith) refl in
-          let place : e ≡ endOf (runBetween s e) = omega (arith, next .filled) in
-          let rest = behind e (omega (arith, next .from, next .filled)) (next .within) (outside-next ws next) in
+          let place : e ≡ endOf (runBetween s e) = omega (arith, next .nonempty) in
+          let rest = behind e (omega (arith, next .from, next .nonempty)) (next .within) (outside-next ws next) in
           subst (RunsFrom g) (sym (runs-step ws out next)) (omega (arith, next .in-row), by-row next, subst (λ p. RunsFrom p (runsOn ws e end)) place rest)
 
 -- The longest runs of a mask, from its first position on.

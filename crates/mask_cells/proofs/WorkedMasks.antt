@@ -52,7 +52,7 @@ record Others : Type 0 where
   no-runs : maskRunsCall [] (old 0 ∷ []) ≡ record { number = 0; index = 0; count = 0; list = old 0 ∷ [] }
   -- two full rows are two runs
   full-rows : longestRuns (replicate 32 full) ≡ run 0 0 1024 ∷ run 1 0 1024 ∷ []
-  -- a full word in the middle of the second row, and the bits beside it
+  -- a full word in the second row, and on either side of it a clear bit and a set one
   full-word : longestRuns (replicate 20 0 ++ 0x4000_0000_0000_0000 ∷ full ∷ 2 ∷ replicate 9 0) ≡ run 1 318 1 ∷ run 1 320 64 ∷ run 1 385 1 ∷ []
   -- a cell at (1, 2): x is the column, y the row
   one-cell : maskSumsCall (replicate 32 0 ++ 2 ∷ replicate 15 0) ≡ record { number = 0; sums = record { count = pos 1; x = pos 1; y = pos 2; xx = pos 1; xy = pos 2; yy = pos 4 } }

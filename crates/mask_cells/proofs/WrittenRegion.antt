@@ -22,20 +22,20 @@ abbrev written : List ℕ → List Run → MaskRunsOutcome
 written ws before = record { number = 0; index = 0; count = length (longestRuns ws); list = longestRuns ws ++ drop (length (longestRuns ws)) before }
 
 -- Neither 31 nor 8.
-neither-refused : (ws : List ℕ) (before : List Run) → maskRunsCall ws before .number ≡ 0 → (wrongLength ws ≡ false) × (tooManyFor before (longestRuns ws) ≡ false)
+neither-refused : (ws : List ℕ) (before : List Run) → maskRunsCall ws before .number ≡ 0 → (wrongLength (length ws) ≡ false) × (tooManyFor before (longestRuns ws) ≡ false)
 unfolding maskRunsCall
-neither-refused ws before e = go (wrongLength ws) (tooManyFor before (longestRuns ws)) e
+neither-refused ws before e = go (wrongLength (length ws)) (tooManyFor before (longestRuns ws)) e
   where
     go : (a b : Bool) → (cond a (nothingWritten 31 before) (cond b (nothingWritten 8 before) (written ws before))) .number ≡ 0 → (a ≡ false) × (b ≡ false)
     go true b e = absurd (omega arith)
     go false true e = absurd (omega arith)
     go false false e = (refl, refl)
 
-all-written : (ws : List ℕ) (before : List Run) → wrongLength ws ≡ false → tooManyFor before (longestRuns ws) ≡ false → maskRunsCall ws before ≡ written ws before
+all-written : (ws : List ℕ) (before : List Run) → wrongLength (length ws) ≡ false → tooManyFor before (longestRuns ws) ≡ false → maskRunsCall ws before ≡ written ws before
 unfolding maskRunsCall
 all-written ws before right few = rw (right, few)
 
-sums-given : (ws : List ℕ) → wrongLength ws ≡ false → maskSumsCall ws ≡ record { number = 0; sums = sumsOver (markedCells ws) }
+sums-given : (ws : List ℕ) → wrongLength (length ws) ≡ false → maskSumsCall ws ≡ record { number = 0; sums = sumsOver (markedCells ws) }
 unfolding maskSumsCall
 sums-given ws right = rw right
 
@@ -50,6 +50,7 @@ written-region ws before e =
     let call = all-written ws before right few in
     let given = sums-given ws right in
     record {
+      count = rw call;
       list = rw call;
       as-long = rw call (length-append rs rest ∙ ap (λ n. length rs + n) (length-drop (length rs) before) ∙ omega arith);
       runs = rw call (take-append-seam rs rest);

@@ -10,9 +10,9 @@ use Rattle.cells.specs.CellSums.{zeros, sumsOver}
 use Rattle.cells.specs.RegionCall.{tooMany}
 use Rattle.mask_cells.specs.MaskCells.{markedCells, longestRuns}
 
--- Refusal 31: the words are no whole number of rows, or are over 1,024 rows.
-unfoldable pub wrongLength : List ℕ → Bool
-wrongLength ws = not (eqb (length ws % 16) 0) || ltb 1024 (length ws / 16)
+-- Refusal 31, of a number of words: they are no whole number of rows, or are over 1,024 rows.
+unfoldable pub wrongLength : ℕ → Bool
+wrongLength n = not (eqb (n % 16) 0) || ltb 1024 (n / 16)
 
 -- ---- the sums
 
@@ -22,7 +22,7 @@ pub record MaskSumsOutcome : Type 0 where
   pub sums : CellSums
 
 unfoldable pub maskSumsCall : List ℕ → MaskSumsOutcome
-maskSumsCall ws = cond (wrongLength ws) (record { number = 31; sums = zeros }) (record { number = 0; sums = sumsOver (markedCells ws) })
+maskSumsCall ws = cond (wrongLength (length ws)) (record { number = 31; sums = zeros }) (record { number = 0; sums = sumsOver (markedCells ws) })
 
 -- ---- the writer
 
@@ -45,6 +45,6 @@ tooManyFor before rs = tooMany rs || ltb (length before) (length rs)
 unfoldable pub maskRunsCall : List ℕ → List Run → MaskRunsOutcome
 maskRunsCall ws before =
     let rs = longestRuns ws in
-    cond (wrongLength ws) (nothingWritten 31 before)
+    cond (wrongLength (length ws)) (nothingWritten 31 before)
     (cond (tooManyFor before rs) (nothingWritten 8 before)
     (record { number = 0; index = 0; count = length rs; list = rs ++ drop (length rs) before }))

@@ -1,17 +1,35 @@
--- Document 02, CR 1: what holds of the marked cells, of the longest runs and of both calls, for every mask. The proofs are in proofs/, in files of the same names.
+-- Document 02, CR 1: what holds of the marked cells, of the longest runs and of both calls, for every mask. Each is proved in proofs/.
 use Prim.Native.Nat.{ℕ, _+_, _-_, _*_, _/_, _%_, _≤_, _<_}
 use mathlib.Core.Path.{_≡_}
 use mathlib.Core.Bool.{true, false}
 use mathlib.Core.List.{List, [], _∷_, _++_}
 use mathlib.Core.Logic.{_⊎_, _≢_}
+use lib.Dec.{eqb}
 use lib.IntN.{pos}
 use lib.ListN.{length, getD, take, drop}
-use Rattle.word_runs.specs.Bits.{onesBelow}
+use Rattle.word_runs.specs.Bits.{bit, onesBelow}
 use Rattle.cells.specs.declared.Run.{Run}
 use Rattle.cells.specs.CellSums.{cellsFrom, allCells, zeros, sumsOver}
 use Rattle.cells.specs.RegionCall.{tooMany, regionCall, runAt}
 use Rattle.mask_cells.specs.MaskCells.{cellAt, isMarked, those, markedCells, longestRuns}
 use Rattle.mask_cells.specs.MaskCalls.{wrongLength, maskSumsCall, maskRunsCall}
+
+-- ---- the marked cells
+
+abbrev pub MarkedBits : Type 0
+MarkedBits =
+    -- For every mask,
+    (ws : List ℕ)
+    -- row,
+    (y : ℕ)
+    -- word of the row
+    (w : ℕ)
+    → w < 16
+    -- and bit of the word,
+    → (i : ℕ)
+    → i < 64
+    -- the cell in column 64 w + i of the row is marked where the bit is 1.
+    → isMarked ws (cellAt y (64 * w + i)) ≡ eqb (bit (getD ws (16 * y + w) 0) i) 1
 
 -- ---- the longest runs
 
@@ -48,7 +66,7 @@ NoneTouch =
 -- A run of marked cells that cannot be made longer, to the west or to the east.
 pub record Longest (ws : List ℕ) (r : Run) : Type 0 where
   -- It has a cell, and all its cells lie in the mask,
-  pub filled : 0 < r .length
+  pub nonempty : 0 < r .length
   pub in-row : r .first + r .length ≤ 1024
   pub in-mask : r .row < length ws / 16
   -- each of them is marked,
@@ -94,7 +112,7 @@ RunsAccepted =
     -- For every mask
     (ws : List ℕ)
     -- that 31 does not refuse
-    → wrongLength ws ≡ false
+    → wrongLength (length ws) ≡ false
     -- and that has at most 4,096 longest runs,
     → tooMany (longestRuns ws) ≡ false
     -- and for every index that a refusal could give:
@@ -104,6 +122,8 @@ RunsAccepted =
 
 -- What is claimed of an accepted call of the writer, on a list of the caller's.
 pub record Written (ws : List ℕ) (before : List Run) : Type 0 where
+  -- As many are counted as there are longest runs.
+  pub count : maskRunsCall ws before .count ≡ length (longestRuns ws)
   -- The list begins with the longest runs, and behind those that were written it is as before, so as long as before.
   pub list : maskRunsCall ws before .list ≡ longestRuns ws ++ drop (maskRunsCall ws before .count) before
   pub as-long : length (maskRunsCall ws before .list) ≡ length before
@@ -163,7 +183,7 @@ abbrev pub OnesCounted : Type 0
 OnesCounted =
     -- For every mask
     (ws : List ℕ)
-    -- of whole rows,
-    → length ws % 16 ≡ 0
-    -- the first of its six sums is the number of its ones.
-    → sumsOver (markedCells ws) .count ≡ pos (onesIn ws)
+    -- whose sums are answered,
+    → maskSumsCall ws .number ≡ 0
+    -- the first of the six is the number of its ones.
+    → maskSumsCall ws .sums .count ≡ pos (onesIn ws)

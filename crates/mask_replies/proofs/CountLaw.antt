@@ -20,7 +20,7 @@ use Rattle.mask_replies.specs.MaskReply.{countReply, countCapped}
 
 pub count-within : (ws : List ℕ) (before : List Run) → maskRunsCall ws before .count ≤ 4096
 unfolding maskRunsCall tooManyFor tooMany
-count-within ws before = by-tests (wrongLength ws) (ltb 4096 (length (longestRuns ws))) (ltb (length before) (length (longestRuns ws))) (length (longestRuns ws)) _ refl
+count-within ws before = by-tests (wrongLength (length ws)) (ltb 4096 (length (longestRuns ws))) (ltb (length before) (length (longestRuns ws))) (length (longestRuns ws)) _ refl
   where
     by-tests : (wrong many short : Bool) (n : ℕ) (after : List Run) → ltb 4096 n ≡ many
         → cond wrong (nothingWritten 31 before) (cond (many || short) (nothingWritten 8 before) (record { number = 0; index = 0; count = n; list = after })) .count ≤ 4096

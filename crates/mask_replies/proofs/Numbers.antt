@@ -16,7 +16,7 @@ use Rattle.mask_replies.specs.MaskReply.{maskSumsReply, maskRunsReply}
 
 sums-number : (ws : List ℕ) → maskSumsCall ws .number < shortBuffer
 unfolding maskSumsCall
-sums-number ws = by-test (wrongLength ws) _ _
+sums-number ws = by-test (wrongLength (length ws)) _ _
   where
     by-test : (wrong : Bool) (s t : CellSums) → cond {A = MaskSumsOutcome} wrong (record { number = 31; sums = s }) (record { number = 0; sums = t }) .number < shortBuffer
     by-test true s t = omega arith
@@ -24,7 +24,7 @@ sums-number ws = by-test (wrongLength ws) _ _
 
 runs-number : (ws : List ℕ) (before : List Run) → maskRunsCall ws before .number < shortBuffer
 unfolding maskRunsCall
-runs-number ws before = by-tests (wrongLength ws) (tooManyFor before (longestRuns ws)) _ _
+runs-number ws before = by-tests (wrongLength (length ws)) (tooManyFor before (longestRuns ws)) _ _
   where
     by-tests : (wrong many : Bool) (n : ℕ) (after : List Run)
         → cond wrong (nothingWritten 31 before) (cond many (nothingWritten 8 before) (record { number = 0; index = 0; count = n; list = after })) .number < shortBuffer

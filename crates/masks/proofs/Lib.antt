@@ -1,5 +1,4 @@
 mod AnswerReadings
-mod Lengths
 mod NextRun
 mod RunsLeft
 mod RunsOfWord

@@ -5,7 +5,7 @@ use Prim.Native.Nat.{ℕ, _-_, _*_, _%_, _≤_, _<_}
 use native.Mathlib.Omega.{arith}
 use lib.ListN.{length}
 use borrow.Author.Tests.{lt-ltb, le-ltb}
-use Rattle.word_runs.specs.private.WordList.{firstCell}
+use Rattle.word_runs.specs.private.WordList.{firstBit}
 use Rattle.mask_cells.specs.private.Positions.{rowEnd}
 use Rattle.masks.specs.private.Scan.{scanned, foundAt, noneFrom, nextRun}
 
@@ -23,10 +23,10 @@ scanned-bounds n = record { rows = omega arith; most = omega arith; within = ome
 -- ---- the run that is found
 
 abbrev pub startFrom : List ℕ → ℕ → ℕ
-startFrom ws at = firstCell 1 ws (scanned (length ws) - at) at
+startFrom ws at = firstBit 1 ws (scanned (length ws) - at) at
 
 abbrev pub endFrom : List ℕ → ℕ → ℕ
-endFrom ws s = firstCell 0 ws (rowEnd s - s) s
+endFrom ws s = firstBit 0 ws (rowEnd s - s) s
 
 pub none-found : (ws : List ℕ) (at s : ℕ) → s ≡ startFrom ws at → scanned (length ws) ≤ s → noneFrom at ≡ nextRun ws at
 unfolding nextRun

@@ -14,9 +14,10 @@ use Rattle.mask_cells.specs.private.Positions.{cellsOn}
 use Rattle.mask_cells.proofs.Positions.{positions, grid-cells}
 use Rattle.mask_cells.proofs.RunSteps.{Outside, outside-row, outside-next, NextRun, runsOn, runs-step, runs-none}
 use Rattle.mask_cells.proofs.NextRuns.{next-found, none-next}
+use Rattle.mask_cells.specs.MaskCalls.{wrongLength}
 use Rattle.masks.specs.declared.scan.Found.{Found}
-use Rattle.masks.specs.private.Scan.{lengthWrong, scanned, nextRun}
-use Rattle.masks.proofs.Lengths.{rows-in-grid}
+use Rattle.masks.specs.private.Scan.{scanned, nextRun}
+use Rattle.mask_cells.proofs.Lengths.{rows-in-grid}
 use Rattle.masks.proofs.NextRun.{scanned-bounds, startFrom, endFrom, none-found, run-found}
 
 module _ (ws : List ℕ) where
@@ -49,7 +50,7 @@ module _ (ws : List ℕ) where
           let below = ltb-true s end h in
           let next : NextRun ws at s e end = next-found ws at s e end (scanned-bounds (length ws) .rows) refl below refl in
           subst (Steps at) (run-found ws at s e refl below refl)
-          (inr (omega (arith, next .filled), (runs-step ws (b .outside) next, record { outside = outside-next ws next; within = next .within })))
+          (inr (omega (arith, next .nonempty), (runs-step ws (b .outside) next, record { outside = outside-next ws next; within = next .within })))
       go false h =
           let past = ltb-false s end h in
           subst (Steps at) (none-found ws at s refl past) (inl (refl, runs-none ws at end (none-next ws at end (b .within) past)))
@@ -58,7 +59,7 @@ module _ (ws : List ℕ) where
   pub first-position : Between 0
   first-position = record { outside = outside-row ws 0 (omega arith); within = omega arith }
 
-  pub all-left : lengthWrong (length ws) ≡ false → longestRuns ws ≡ left 0
+  pub all-left : wrongLength (length ws) ≡ false → longestRuns ws ≡ left 0
   unfolding longestRuns scanned
   all-left h =
       let few = rows-in-grid (length ws) h in

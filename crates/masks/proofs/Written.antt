@@ -12,13 +12,12 @@ use borrow.Author.Tests.{lt-ltb, le-ltb, ltb-true, ltb-false}
 use Rattle.cells.specs.declared.Run.{Run}
 use Rattle.cells.specs.RegionCall.{tooMany}
 use Rattle.mask_cells.specs.MaskCells.{longestRuns}
-use Rattle.mask_cells.specs.MaskCalls.{tooManyFor, maskRunsCall}
+use Rattle.mask_cells.specs.MaskCalls.{tooManyFor, maskRunsCall, wrongLength}
 use Rattle.masks.specs.MaskAnswers.{runsReading}
 use Rattle.masks.specs.declared.scan.Found.{Found}
 use Rattle.masks.specs.declared.Decision.{Decision}
 use Rattle.masks.specs.declared.MaskRunsAnswer.the-variants.{Written, WrongLength, TooManyRuns}
-use Rattle.masks.specs.private.Scan.{lengthWrong, nextRun, countedRuns, decision, filled}
-use Rattle.masks.proofs.Lengths.{same-test}
+use Rattle.masks.specs.private.Scan.{nextRun, countedRuns, decision, afterStores}
 use Rattle.masks.proofs.RunsLeft.{left, Between, Steps, steps, first-position, all-left}
 
 -- ---- what is stored
@@ -34,8 +33,8 @@ in-front (r ∷ rs) e rest = let none = ap length e in absurd (omega arith)
 
 module _ (ws : List ℕ) where
   -- All runs that are left are stored behind those that stand already, over as many places of the rest.
-  stored : (k at : ℕ) (before rest : List Run) → Between ws at → length (left ws at) ≡ k → k ≤ length rest → filled ws k at (length before) (before ++ rest) ≡ before ++ (left ws at ++ drop k rest)
-  unfolding filled
+  stored : (k at : ℕ) (before rest : List Run) → Between ws at → length (left ws at) ≡ k → k ≤ length rest → afterStores ws k at (length before) (before ++ rest) ≡ before ++ (left ws at ++ drop k rest)
+  unfolding afterStores
   stored zero at before rest b none h = ap (λ rs. before ++ rs) (in-front (left ws at) (no-runs (left ws at) none) rest)
   stored (suc k) at before [] b more h = absurd (omega arith)
   stored (suc k) at before (r ∷ rest) b more h = go (steps ws at b) (λ next. stored k next (before ++ nextRun ws at .run ∷ []) rest)
@@ -46,19 +45,19 @@ module _ (ws : List ℕ) where
       more-before : List Run
       more-before = before ++ found .run ∷ []
 
-      go : Steps ws at found → ((next : ℕ) → Between ws next → length (left ws next) ≡ k → k ≤ length rest → filled ws k next (length more-before) (more-before ++ rest) ≡ more-before ++ (left ws next ++ drop k rest))
-          → filled ws k (found .next) (length before + 1) (set (before ++ r ∷ rest) (length before) (found .run)) ≡ before ++ (left ws at ++ drop k rest)
+      go : Steps ws at found → ((next : ℕ) → Between ws next → length (left ws next) ≡ k → k ≤ length rest → afterStores ws k next (length more-before) (more-before ++ rest) ≡ more-before ++ (left ws next ++ drop k rest))
+          → afterStores ws k (found .next) (length before + 1) (set (before ++ r ∷ rest) (length before) (found .run)) ≡ before ++ (left ws at ++ drop k rest)
       go (inl (empty, nothing)) others-stored = let none = ap length nothing in absurd (omega arith)
       go (inr (some, (first, after))) others-stored =
           let next = found .next in
           let others = ap length first in
-          ap₂ (filled ws k next) (sym (length-append before (found .run ∷ []))) (set-append-seam before r rest (found .run) ∙ sym (append-assoc before (found .run ∷ []) rest))
+          ap₂ (afterStores ws k next) (sym (length-append before (found .run ∷ []))) (set-append-seam before r rest (found .run) ∙ sym (append-assoc before (found .run ∷ []) rest))
           ∙ others-stored next after (omega arith) (omega arith)
           ∙ append-assoc before (found .run ∷ []) (left ws next ++ drop k rest)
           ∙ ap (λ rs. before ++ (rs ++ drop k rest)) (sym first)
 
   -- From the start.
-  all-stored : (before : List Run) → lengthWrong (length ws) ≡ false → length (longestRuns ws) ≤ length before → filled ws (length (longestRuns ws)) 0 0 before ≡ longestRuns ws ++ drop (length (longestRuns ws)) before
+  all-stored : (before : List Run) → wrongLength (length ws) ≡ false → length (longestRuns ws) ≤ length before → afterStores ws (length (longestRuns ws)) 0 0 before ≡ longestRuns ws ++ drop (length (longestRuns ws)) before
   all-stored before right h =
       let all = all-left ws right in
       stored (length (longestRuns ws)) 0 [] before (first-position ws) (ap length (sym all)) h ∙ ap (λ rs. rs ++ drop (length (longestRuns ws)) before) (sym all)
@@ -93,20 +92,20 @@ module _ (ws : List ℕ) (before : List Run) where
 
   pub fits : decision ws (length before) .count ≤ length before
   unfolding decision
-  fits = go (lengthWrong (length ws)) (ltb most (countedRuns ws most)) refl
+  fits = go (wrongLength (length ws)) (ltb most (countedRuns ws most)) refl
     where
       go : (a b : Bool) → ltb most (countedRuns ws most) ≡ b → cond {A = Decision} a (record { answer = WrongLength; count = 0 }) (cond b (record { answer = TooManyRuns; count = 0 }) (record { answer = Written (countedRuns ws most); count = countedRuns ws most })) .count ≤ length before
       go true b h = omega arith
       go false true h = omega arith
       go false false h = let held = ltb-false most (countedRuns ws most) h in omega arith
 
-  pub written : runsReading (decision ws (length before) .answer) (filled ws (decision ws (length before) .count) 0 0 before) ≡ maskRunsCall ws before
-  unfolding decision filled maskRunsCall
-  written = go (lengthWrong (length ws)) (ltb most (length runs)) refl refl
+  pub written : runsReading (decision ws (length before) .answer) (afterStores ws (decision ws (length before) .count) 0 0 before) ≡ maskRunsCall ws before
+  unfolding decision afterStores maskRunsCall
+  written = go (wrongLength (length ws)) (ltb most (length runs)) refl refl
     where
-      go : (a b : Bool) → lengthWrong (length ws) ≡ a → ltb most (length runs) ≡ b → runsReading (decision ws (length before) .answer) (filled ws (decision ws (length before) .count) 0 0 before) ≡ maskRunsCall ws before
-      go true b w m = rw (w, same-test ws ∙ w)
-      go false true w m = rw (w, same-test ws ∙ w, too-many-for before runs, m, counted-over (ltb-true most (length runs) m))
+      go : (a b : Bool) → wrongLength (length ws) ≡ a → ltb most (length runs) ≡ b → runsReading (decision ws (length before) .answer) (afterStores ws (decision ws (length before) .count) 0 0 before) ≡ maskRunsCall ws before
+      go true b w m = rw w
+      go false true w m = rw (w, too-many-for before runs, m, counted-over (ltb-true most (length runs) m))
       go false false w m =
           let few = ltb-false most (length runs) m in
-          rw (w, same-test ws ∙ w, too-many-for before runs, m, counted-all few, m, all-stored ws before w (omega arith))
+          rw (w, too-many-for before runs, m, counted-all few, m, all-stored ws before w (omega arith))

@@ -3,9 +3,9 @@
 ghost use mathlib.Core.Path.{_≡_};
 ghost use mathlib.Core.List.{[]};
 ghost use Rattle.cells.specs.CellSums.{zeros};
-ghost use Rattle.mask_cells.specs.MaskCalls.{maskSumsCall, maskRunsCall};
+ghost use Rattle.mask_cells.specs.MaskCalls.{wrongLength, maskSumsCall, maskRunsCall};
 ghost use Rattle.masks.specs.MaskAnswers.{sumsReading, runsReading};
-ghost use Rattle.masks.specs.private.Scan.{lengthWrong, decision};
+ghost use Rattle.masks.specs.private.Scan.{decision};
 
 mod scan;
 mod word_sums;
@@ -89,7 +89,7 @@ struct Decision {
 
 // Refusal 31, of a number of words.
 fn wrong_length(length: usize) -> bool
-    ensures { λ r. ⌜ r ≡ lengthWrong length ⌝ }
+    ensures { λ r. ⌜ r ≡ wrongLength length ⌝ }
 {
     if length % 16 != 0 {
         return true;
@@ -148,7 +148,7 @@ pub fn mask_runs(words: &[u64], runs: &mut [Run]) -> MaskRunsAnswer
         let found = scan::next_run(words, at);
         runs[i] = found.run;
         at = found.next;
-        i = i + 1;
+        i += 1;
     }
     decision.answer
 }

@@ -4,13 +4,14 @@ ghost use mathlib.Core.Bool.{false};
 ghost use Prim.Native.Nat.{_*_, _-_, _%_, _≤_};
 ghost use lib.ListN.{length};
 ghost use Rattle.word_runs.specs.Bits.{wanted};
-ghost use Rattle.word_runs.specs.private.WordList.{firstCell};
-ghost use Rattle.masks.specs.private.Scan.{scanned, nextRun, lengthWrong, countedRuns};
+ghost use Rattle.word_runs.specs.private.WordList.{firstBit};
+ghost use Rattle.mask_cells.specs.MaskCalls.{wrongLength};
+ghost use Rattle.masks.specs.private.Scan.{scanned, nextRun, countedRuns};
 use cells::Run;
 use integers::lesser;
 use word_runs::first_bit;
 
-// The next run, and the position where it ends.
+// A run, and the position behind it, where the search for the next one begins.
 pub(crate) struct Found {
     pub(crate) run: Run,
     pub(crate) next: usize,
@@ -21,7 +22,7 @@ fn next_of_words(words: &[u64], from: usize, end: usize, set: bool) -> usize
     requires { ⌜ from % 64 ≡ 0 ⌝ }
     requires { ⌜ end % 64 ≡ 0 ⌝ }
     requires { ⌜ end ≤ 64 * length (now words) ⌝ }
-    ensures { λ r. ⌜ r ≡ firstCell (wanted set) (now (words .entry)) (end - from) from ⌝ }
+    ensures { λ r. ⌜ r ≡ firstBit (wanted set) (now (words .entry)) (end - from) from ⌝ }
 {
     let mut at = from;
     while at < end {
@@ -38,7 +39,7 @@ fn next_of_words(words: &[u64], from: usize, end: usize, set: bool) -> usize
 fn next_bit(words: &[u64], from: usize, end: usize, set: bool) -> usize
     requires { ⌜ end % 64 ≡ 0 ⌝ }
     requires { ⌜ end ≤ 64 * length (now words) ⌝ }
-    ensures { λ r. ⌜ r ≡ firstCell (wanted set) (now (words .entry)) (end - from) from ⌝ }
+    ensures { λ r. ⌜ r ≡ firstBit (wanted set) (now (words .entry)) (end - from) from ⌝ }
 {
     if end <= from {
         return from;
@@ -58,7 +59,7 @@ fn positions(length: usize) -> usize
     lesser(length / 16, 1024) * 1024
 }
 
-// The first longest run from the position `at` on, if no run goes on there; a run of length 0 where there is none.
+// The first longest run from `at` on, a position that does not lie inside a run. Where there is none: a run of length 0, and `at` again.
 pub(crate) fn next_run(words: &[u64], at: usize) -> Found
     ensures { λ r. ⌜ r ≡ nextRun (now (words .entry)) at ⌝ }
 {
@@ -87,7 +88,7 @@ pub(crate) fn next_run(words: &[u64], at: usize) -> Found
 
 // How many runs there are; the count ends at one more than `most`.
 pub(crate) fn count_runs(words: &[u64], most: usize) -> usize
-    requires { ⌜ lengthWrong (length (now words)) ≡ false ⌝ }
+    requires { ⌜ wrongLength (length (now words)) ≡ false ⌝ }
     requires { ⌜ most ≤ 4096 ⌝ }
     ensures { λ r. ⌜ r ≡ countedRuns (now (words .entry)) most ⌝ }
 {

@@ -1,4 +1,4 @@
-// The sums of the marked cells of one word, run by run.
+// What one word adds to the sums: its cells by the count of its ones, their columns run by run.
 ghost use mathlib.Core.Path.{_≡_};
 ghost use Prim.Native.Nat.{_<_};
 ghost use Rattle.cells.specs.CellSums.{plus};
@@ -16,7 +16,7 @@ pub(crate) struct ColumnSums {
     pub(crate) xx: i64,
 }
 
-// The columns from `first` up to `end` are added, by the sums below either.
+// With the columns from `first` up to `end`: the sums below `end` less those below `first`.
 fn add_span(sums: ColumnSums, first: u32, end: u32) -> ColumnSums
     requires { ⌜ SpanBounds sums first end ⌝ }
     ensures { λ r. ⌜ r ≡ withSpan sums first end ⌝ }
@@ -31,7 +31,7 @@ fn add_span(sums: ColumnSums, first: u32, end: u32) -> ColumnSums
     }
 }
 
-// Of the marked cells of word k of the mask. Each of its runs begins at the next set bit and ends at the next clear one.
+// The sums of x and of x² over the marked cells of word k. Each run of the word begins at the next set bit and ends at the next clear one.
 fn columns_of(word: u64, k: usize) -> ColumnSums
     requires { ⌜ k < 16384 ⌝ }
     ensures { λ r. ⌜ r ≡ columnsOf (wordSums word k) ⌝ }

@@ -1,5 +1,5 @@
--- How an outcome of document 01 reaches a caller in another language, which has no records of ours: as one number and a buffer that the caller lends. Ours;
--- document 01 has the outcomes alone.
+-- How an outcome of document 01 or 02 reaches a caller in another language, which has no records of ours: as one number and a buffer that the caller lends. Ours;
+-- the papers have the outcomes alone.
 use Prim.Native.Nat.{ℕ}
 use mathlib.Core.Bool.{cond}
 use mathlib.Core.List.{List, _++_}
@@ -12,7 +12,7 @@ pub record Reply : Type 0 where
   pub number : ℕ
   pub buffer : List ℤ
 
--- The answer where the buffer has fewer entries than there are values. No refusal of document 01 has this number.
+-- The answer where the buffer has fewer entries than there are values. No refusal of document 01 or 02 has this number.
 abbrev pub shortBuffer : ℕ
 shortBuffer = 100
 

@@ -7,18 +7,19 @@ use native.Mathlib.Omega.{arith}
 use borrow.Author.Needs.{needs}
 use borrow.Author.Tests.{lt-ltb, le-ltb}
 use lib.ListN.{length}
+use Rattle.mask_cells.specs.MaskCalls.{wrongLength}
 use Rattle.masks.specs.declared.MaskRunsAnswer.the-variants.{Written, WrongLength, TooManyRuns}
-use Rattle.masks.specs.private.Scan.{lengthWrong, countedRuns, decision}
+use Rattle.masks.specs.private.Scan.{countedRuns, decision}
 use Rattle.masks.proofs.decide.Statement.{statement}
 use Rattle.masks.proofs.decide.Tie as tie
 
 module _ (ws : List ℕ) (held : ℕ) where
   -- The three ways of a decision.
-  wrong : lengthWrong (length ws) ≡ true → record { answer = WrongLength; count = 0 } ≡ decision ws held
+  wrong : wrongLength (length ws) ≡ true → record { answer = WrongLength; count = 0 } ≡ decision ws held
   unfolding decision
   wrong w = rw w
 
-  module _ (right : lengthWrong (length ws) ≡ false) (most count : ℕ) (is-most : most ≡ min held 4096) (is-count : count ≡ countedRuns ws most) where
+  module _ (right : wrongLength (length ws) ≡ false) (most count : ℕ) (is-most : most ≡ min held 4096) (is-count : count ≡ countedRuns ws most) where
     too-many : most < count → record { answer = TooManyRuns; count = 0 } ≡ decision ws held
     unfolding decision
     too-many h = rw (right, ← is-most, ← is-count, lt-ltb most count h)

@@ -14,12 +14,11 @@ use Rattle.integers.proofs.Flags.{tells}
 use Rattle.mask_cells.specs.MaskCells.{those}
 use Rattle.mask_cells.specs.private.Positions.{cellsOn}
 use Rattle.mask_cells.specs.private.WordCells.{wordCells}
-use Rattle.mask_cells.specs.MaskCalls.{maskSumsCall}
+use Rattle.mask_cells.specs.MaskCalls.{maskSumsCall, wrongLength}
 use Rattle.mask_cells.proofs.WordCells.{firstWords, word-more, all-words}
 use Rattle.mask_cells.proofs.RowSums.{words-within}
-use Rattle.masks.specs.private.Scan.{lengthWrong}
 use Rattle.masks.specs.private.WordSums.{wordSums}
-use Rattle.masks.proofs.Lengths.{same-test, whole-rows, rows-in-grid}
+use Rattle.mask_cells.proofs.Lengths.{whole-rows, rows-in-grid}
 use Rattle.masks.proofs.mask_sums.Statement.{statement}
 use Rattle.masks.proofs.mask_sums.Tie as tie
 
@@ -46,13 +45,13 @@ word-added ws sums k e =
 
 -- ---- the outcome
 
-refused : (ws : List ℕ) → lengthWrong (length ws) ≡ true → record { number = 31; sums = zeros } ≡ maskSumsCall ws
+refused : (ws : List ℕ) → wrongLength (length ws) ≡ true → record { number = 31; sums = zeros } ≡ maskSumsCall ws
 unfolding maskSumsCall
-refused ws e = rw (same-test ws ∙ e)
+refused ws e = rw (e)
 
-accepted : (ws : List ℕ) → lengthWrong (length ws) ≡ false → record { number = 0; sums = sumsOver (firstWords ws (length ws)) } ≡ maskSumsCall ws
+accepted : (ws : List ℕ) → wrongLength (length ws) ≡ false → record { number = 0; sums = sumsOver (firstWords ws (length ws)) } ≡ maskSumsCall ws
 unfolding maskSumsCall
-accepted ws e = rw (same-test ws ∙ e, all-words ws (whole-rows (length ws) e))
+accepted ws e = rw (e, all-words ws (whole-rows (length ws) e))
 
 -- ---- the needs
 
@@ -60,7 +59,7 @@ module _ (c : tie.Else1 Inv-loop μ-loop) where
   abbrev words : List ℕ
   words = c .before .before .before .args .words .now
 
-  right-length : lengthWrong (length words) ≡ false
+  right-length : wrongLength (length words) ≡ false
   right-length = tells (c .before .wrong-length .ensures) (c .if1 .left)
 
   most-words : length words ≤ 16384

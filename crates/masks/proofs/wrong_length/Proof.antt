@@ -2,16 +2,16 @@
 use Prim.Native.Nat.{_%_}
 use native.Mathlib.Omega.{arith}
 use borrow.Author.Tests.{eq-eqb, ne-eqb}
-use Rattle.masks.specs.private.Scan.{lengthWrong}
+use Rattle.mask_cells.specs.MaskCalls.{wrongLength}
 use Rattle.masks.proofs.wrong_length.Statement.{statement}
 use Rattle.masks.proofs.wrong_length.Tie as tie
 
 returns : tie.Need-returns
-unfolding lengthWrong
+unfolding wrongLength
 returns c = rw (ne-eqb (c .before .args .length % 16) 0 (λ e. omega arith))
 
 returns-2 : tie.Need-returns-2
-unfolding lengthWrong
+unfolding wrongLength
 returns-2 c = rw (eq-eqb (c .before .args .length % 16) 0 (omega arith))
 
 pub wrong-length-spec : {M : Type 1} → statement M

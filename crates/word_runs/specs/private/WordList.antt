@@ -6,9 +6,9 @@ use lib.Dec.{eqb}
 use Rattle.word_runs.specs.Bits.{bit, firstWhere}
 
 -- Bit i of the list, where word k has the bits from 64 k on. Past the list all bits are clear.
-abbrev pub cell : List ℕ → ℕ → ℕ
-cell ws i = bit (getD ws (i / 64) 0) (i % 64)
+abbrev pub bitAt : List ℕ → ℕ → ℕ
+bitAt ws i = bit (getD ws (i / 64) 0) (i % 64)
 
 -- The first place of the list whose bit is v, among the n places from i on; i + n where there is none.
-abbrev pub firstCell : ℕ → List ℕ → ℕ → ℕ → ℕ
-firstCell v ws n i = firstWhere (λ (k : ℕ). eqb (cell ws k) v) n i
+abbrev pub firstBit : ℕ → List ℕ → ℕ → ℕ → ℕ
+firstBit v ws n i = firstWhere (λ (k : ℕ). eqb (bitAt ws k) v) n i

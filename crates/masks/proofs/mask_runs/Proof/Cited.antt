@@ -36,7 +36,7 @@ use Rattle.cells.proofs.Run as T
 use Rattle.cells.proofs.Run.Laws as T′
 use Rattle.mask_cells.specs.MaskCalls.{maskRunsCall}
 use Rattle.masks.specs.MaskAnswers.{runsReading}
-use Rattle.masks.specs.private.Scan.{nextRun, decision, filled}
+use Rattle.masks.specs.private.Scan.{nextRun, decision, afterStores}
 use Rattle.masks.specs.declared.scan.Found.{Found}
 use Rattle.masks.specs.declared.Decision.{Decision}
 use Rattle.masks.proofs.Written.{written, fits}
@@ -130,15 +130,15 @@ pub record State (ws : List ℕ) (ys : List Run) (count : ℕ) : Type 0 where
   pub cur : List Run
   pub at-fits : at < 2 ^ 64
   pub len : length cur ≡ length ys
-  pub leads : filled ws (count - i) at i cur ≡ filled ws count 0 0 ys
+  pub leads : afterStores ws (count - i) at i cur ≡ afterStores ws count 0 0 ys
 
--- the two equations of `filled`
-stored : (ws : List ℕ) (k at i : ℕ) (rs : List Run) → filled ws (suc k) at i rs ≡ filled ws k (nextRun ws at .next) (i + 1) (set rs i (nextRun ws at .run))
-unfolding filled
+-- the two equations of `afterStores`
+stored : (ws : List ℕ) (k at i : ℕ) (rs : List Run) → afterStores ws (suc k) at i rs ≡ afterStores ws k (nextRun ws at .next) (i + 1) (set rs i (nextRun ws at .run))
+unfolding afterStores
 stored ws k at i rs = refl
 
-all-stored : (ws : List ℕ) (at i : ℕ) (rs : List Run) → filled ws 0 at i rs ≡ rs
-unfolding filled
+all-stored : (ws : List ℕ) (at i : ℕ) (rs : List Run) → afterStores ws 0 at i rs ≡ rs
+unfolding afterStores
 all-stored ws at i rs = refl
 
 one-left : (count i : ℕ) → i < count → count - i ≡ suc (count - (i + 1))
@@ -163,15 +163,15 @@ module _ (ws : List ℕ) (ys : List Run) (count : ℕ) where
 
   -- before the first run
   abbrev pub start : State ws ys count
-  start = record { at = 0; i = 0; cur = ys; at-fits = lit< tt; len = refl; leads = ap (λ (k : ℕ). filled ws k 0 0 ys) (sub-zero count) }
+  start = record { at = 0; i = 0; cur = ys; at-fits = lit< tt; len = refl; leads = ap (λ (k : ℕ). afterStores ws k 0 0 ys) (sub-zero count) }
 
   -- what one more turn stores leads where the whole does
   pub leads-on : (s : State ws ys count) → s .i < count → (r : Found) → r ≡ nextRun ws (s .at)
-      → filled ws (count - (s .i + 1)) (r .next) (s .i + 1) (set (s .cur) (s .i) (r .run)) ≡ filled ws count 0 0 ys
+      → afterStores ws (count - (s .i + 1)) (r .next) (s .i + 1) (set (s .cur) (s .i) (r .run)) ≡ afterStores ws count 0 0 ys
   leads-on s l r e =
-      ap (λ (f : Found). filled ws (count - (s .i + 1)) (f .next) (s .i + 1) (set (s .cur) (s .i) (f .run))) e
+      ap (λ (f : Found). afterStores ws (count - (s .i + 1)) (f .next) (s .i + 1) (set (s .cur) (s .i) (f .run))) e
       ∙ sym (stored ws (count - (s .i + 1)) (s .at) (s .i) (s .cur))
-      ∙ ap (λ (k : ℕ). filled ws k (s .at) (s .i) (s .cur)) (sym (one-left count (s .i) l)) ∙ s .leads
+      ∙ ap (λ (k : ℕ). afterStores ws k (s .at) (s .i) (s .cur)) (sym (one-left count (s .i) l)) ∙ s .leads
 
   -- one run further
   abbrev pub next : (s : State ws ys count) → s .i < count → (r : Found) → r .next < 2 ^ 64 → r ≡ nextRun ws (s .at) → State ws ys count
@@ -185,8 +185,8 @@ module _ (ws : List ℕ) (ys : List Run) (count : ℕ) where
   }
 
   -- past the last run
-  at-end : (s : State ws ys count) → count ≤ s .i → s .cur ≡ filled ws count 0 0 ys
-  at-end s l = sym (all-stored ws (s .at) (s .i) (s .cur)) ∙ ap (λ (k : ℕ). filled ws k (s .at) (s .i) (s .cur)) (sym (none-left count (s .i) l)) ∙ s .leads
+  at-end : (s : State ws ys count) → count ≤ s .i → s .cur ≡ afterStores ws count 0 0 ys
+  at-end s l = sym (all-stored ws (s .at) (s .i) (s .cur)) ∙ ap (λ (k : ℕ). afterStores ws k (s .at) (s .i) (s .cur)) (sym (none-left count (s .i) l)) ∙ s .leads
 
 module _ (ws : List ℕ) (ys : List Run) (d : Decision) (e : d ≡ decision ws (length ys)) where
   -- each run that is stored has a place
@@ -197,4 +197,4 @@ module _ (ws : List ℕ) (ys : List Run) (d : Decision) (e : d ≡ decision ws (
   pub promised : (s : State ws ys (d .count)) → d .count ≤ s .i → runsReading (d .answer) (s .cur) ≡ maskRunsCall ws ys
   promised s l =
       ap (λ (zs : List Run). runsReading (d .answer) zs) (at-end ws ys (d .count) s l)
-      ∙ ap (λ (c : Decision). runsReading (c .answer) (filled ws (c .count) 0 0 ys)) e ∙ written ws ys
+      ∙ ap (λ (c : Decision). runsReading (c .answer) (afterStores ws (c .count) 0 0 ys)) e ∙ written ws ys

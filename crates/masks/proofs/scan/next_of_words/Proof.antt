@@ -6,7 +6,7 @@ use native.Mathlib.Omega.{arith}
 use borrow.Author.Needs.{needs}
 use lib.ListN.{getD}
 use Rattle.word_runs.specs.Bits.{wanted, firstOf}
-use Rattle.word_runs.specs.private.WordList.{firstCell}
+use Rattle.word_runs.specs.private.WordList.{firstBit}
 use Rattle.word_runs.proofs.Searches.{empty-search}
 use Rattle.word_runs.proofs.WordSearch.{within-word, found-here, not-here}
 use Rattle.masks.proofs.scan.next_of_words.Statement.{statement}
@@ -17,17 +17,17 @@ module _ (ws : List ℕ) (v at end : ℕ) (inside : at < end) (whole : end % 64 
   from-start : k ≡ firstOf v (64 - at % 64) (getD ws (at / 64) 0) (at % 64)
   from-start = is ∙ ap (λ (i : ℕ). firstOf v (64 - i) (getD ws (at / 64) 0) i) (sym start)
 
-  found : k < 64 → at + k ≡ firstCell v ws (end - at) at
+  found : k < 64 → at + k ≡ firstBit v ws (end - at) at
   found h = ap (λ (n : ℕ). n + k) (let first : at ≡ at / 64 * 64 = omega arith in first) ∙ found-here ws v at end inside whole k from-start h
 
-  passed : 64 ≤ k → firstCell v ws (end - at) at ≡ firstCell v ws (end - (at + 64)) (at + 64)
+  passed : 64 ≤ k → firstBit v ws (end - at) at ≡ firstBit v ws (end - (at + 64)) (at + 64)
   passed h =
       let most = within-word v (getD ws (at / 64) 0) 0 (omega arith) in
-      not-here ws v at end inside whole k from-start (omega (arith, most, is)) ∙ ap (λ (n : ℕ). firstCell v ws (end - n) n) (let next : at / 64 * 64 + 64 ≡ at + 64 = omega arith in next)
+      not-here ws v at end inside whole k from-start (omega (arith, most, is)) ∙ ap (λ (n : ℕ). firstBit v ws (end - n) n) (let next : at / 64 * 64 + 64 ≡ at + 64 = omega arith in next)
 
 record Searched (ws : List ℕ) (v from end at : ℕ) : Type 0 where
   start : at % 64 ≡ 0
-  same : firstCell v ws (end - from) from ≡ firstCell v ws (end - at) at
+  same : firstBit v ws (end - from) from ≡ firstBit v ws (end - at) at
 
 abbrev Inv-loop : tie.InvT-loop
 Inv-loop words from end set at₀ at = Searched words (wanted set) from end at

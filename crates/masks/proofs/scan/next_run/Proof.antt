@@ -6,7 +6,7 @@ use native.Mathlib.Omega.{arith}
 use borrow.Author.Needs.{needs}
 use lib.Dec.{eqb}
 use lib.ListN.{length}
-use Rattle.word_runs.specs.private.WordList.{cell, firstCell}
+use Rattle.word_runs.specs.private.WordList.{bitAt, firstBit}
 use Rattle.word_runs.proofs.Searches.{found-bounds}
 use Rattle.masks.specs.private.Scan.{scanned}
 use Rattle.masks.proofs.NextRun.{scanned-bounds, startFrom, none-found, run-found}
@@ -14,8 +14,8 @@ use Rattle.masks.proofs.scan.next_run.Statement.{statement}
 use Rattle.masks.proofs.scan.next_run.Tie as tie
 
 -- Where the search for the start has ended.
-searched : (ws : List ℕ) (at end s : ℕ) → end ≡ scanned (length ws) → s ≡ firstCell 1 ws (end - at) at → s ≡ startFrom ws at
-searched ws at end s e h = h ∙ ap (λ (n : ℕ). firstCell 1 ws (n - at) at) e
+searched : (ws : List ℕ) (at end s : ℕ) → end ≡ scanned (length ws) → s ≡ firstBit 1 ws (end - at) at → s ≡ startFrom ws at
+searched ws at end s e h = h ∙ ap (λ (n : ℕ). firstBit 1 ws (n - at) at) e
 
 -- A start below the end of the positions lies in the grid, and in a row of the mask.
 record Inside (ws : List ℕ) (s : ℕ) : Type 0 where
@@ -28,9 +28,9 @@ inside ws end s e h =
     record { grid = omega (arith, b .most); row = omega (arith, b .rows, b .within) }
 
 -- A search that ends within 1,024 positions.
-ends-near : (ws : List ℕ) (n s e : ℕ) → n ≤ 1024 → e ≡ firstCell 0 ws n s → (s ≤ e) × (e ≤ s + 1024)
+ends-near : (ws : List ℕ) (n s e : ℕ) → n ≤ 1024 → e ≡ firstBit 0 ws n s → (s ≤ e) × (e ≤ s + 1024)
 ends-near ws n s e h is =
-    let (low, high) = found-bounds (λ (k : ℕ). eqb (cell ws k) 0) n s in
+    let (low, high) = found-bounds (λ (k : ℕ). eqb (bitAt ws k) 0) n s in
     (omega arith, omega arith)
 
 positions-requires : tie.Need-positions-requires
