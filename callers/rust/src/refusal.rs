@@ -17,10 +17,6 @@ pub enum Refusal {
     WrongMaskLength = 31,
 }
 
-/// The meaning of 8, of the call on runs and of that which writes them.
-const TOO_MANY_RUNS: &str =
-    "there are more than 4,096 runs, or more than the list to be filled holds";
-
 impl Refusal {
     pub fn number(self) -> u32 {
         self as u32
@@ -54,7 +50,9 @@ impl Refusal {
             Refusal::MapOutsideLimits => "a number of a map is outside its limits",
             Refusal::TotalsOutsideBounds => "a total handed to a map is larger than any outline's",
             Refusal::MappedOutsideLimits => "a total after the map would pass 10^18 in size",
-            Refusal::TooManyRuns => TOO_MANY_RUNS,
+            Refusal::TooManyRuns => {
+                "there are more than 4,096 runs, or more than the list to be filled holds"
+            }
             Refusal::CentreOutsideLimits => {
                 "the totals or sums that a centre is wanted of are outside their limits"
             }
@@ -107,7 +105,7 @@ impl RegionRefusal {
             RegionRefusal::OutOfOrder(_) => {
                 "a run has a lower row than the run listed before it, or has the same row and begins before that run ends"
             }
-            RegionRefusal::TooManyRuns => TOO_MANY_RUNS,
+            RegionRefusal::TooManyRuns => "there are more than 4,096 runs",
         }
     }
 }

@@ -1,7 +1,7 @@
 //! Refusals as numbers, as texts and as errors.
 use crate::runs_of;
 use mavrihkel::{outline_centroid, outline_totals, region_sums, Centre, Refusal, RegionRefusal};
-use std::collections::BTreeMap;
+use std::collections::BTreeSet;
 use std::error::Error;
 use std::fs;
 use std::path::Path;
@@ -78,19 +78,22 @@ fn pages() -> String {
         .collect()
 }
 
-/// Each number's meaning is another one, and is that of the number's row in the table of refusals.
+/// Of the two causes of 8 that the table names, the call on runs meets the first alone.
+const SECOND_CAUSE_OF_8: &str = ", or more than the list to be filled holds";
+
+/// Each meaning is another one, and is that of the number's row in the table of refusals.
 #[test]
 fn meanings_are_those_of_the_table() {
     let pages = pages();
-    let mut numbers = BTreeMap::new();
+    let mut meanings = BTreeSet::new();
     for (_, meaning, number) in texts() {
         let row = format!("\n| {number} | {meaning} | ");
-        assert!(pages.contains(&row), "no page has the row {row}");
-        let earlier = numbers.insert(meaning, number);
+        let first_cause = format!("\n| {number} | {meaning}{SECOND_CAUSE_OF_8} | ");
         assert!(
-            earlier.is_none_or(|n| n == number),
-            "{row} has another's meaning"
+            pages.contains(&row) || pages.contains(&first_cause),
+            "no page has the row {row}"
         );
+        assert!(meanings.insert(meaning), "{row} has another's meaning");
     }
 }
 
