@@ -7,7 +7,7 @@ use outline::Position;
 use outline::Sizes;
 use outline::Totals;
 
-// The limit of a sheet's totals, of a mapped total and of one that a centre is asked of, by size; and of a cell sum.
+// The limit of a sheet's totals, of a mapped total and of one that a centre is asked of, by size.
 pub const TOTAL_LIMIT: u64 = 1_000_000_000_000_000_000;
 
 const TOTAL_LIMITS: Sizes = Sizes {

@@ -1,10 +1,20 @@
-// The answers of the call on a whole list and of the calls of a walk, each with the number of its refusal, and what a call of a walk hands back.
+// The answers of the call on a whole list and of the calls of a walk, each with the number of its refusal, and what a call of a walk hands back; and the totals
+// of a refusal, for every call that answers totals.
 ghost use mathlib.Core.Path.{_≡_};
+ghost use Rattle.outline.specs.EdgeSums.{zeros};
 ghost use Rattle.outline_answers.specs.ListAnswer.{reading as listReading};
 ghost use Rattle.outline_answers.specs.WalkAnswers.{beginNumber, pointNumber, endNumber, abandonNumber};
 use outline::Sheet;
 use outline::Totals;
 use outline::Walk;
+use outline::ZEROS;
+
+// The totals of a refusal.
+pub fn no_totals() -> Totals
+    ensures { λ r. ⌜ r ≡ zeros ⌝ }
+{
+    ZEROS
+}
 
 pub enum OutlineAnswer {
     Accepted(Totals),

@@ -1,3 +1,3 @@
 pub mod Numbers
-mod Told
+pub mod Told
 mod WorkedReplies

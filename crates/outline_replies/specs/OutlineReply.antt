@@ -5,7 +5,7 @@ use Rattle.outline.specs.ListCall.{Outcome}
 use Rattle.centroid.specs.Centroid.{CentroidOutcome}
 use Rattle.replies.specs.Reply.{Reply, reply}
 
--- The number, and the six totals in document 01's order.
+-- The number, and the six totals in document 01's order: of outlines, and of masks too.
 abbrev pub totalsReply : Outcome → List ℤ → Reply
 totalsReply o buffer =
     let t = o .totals in

@@ -1,7 +1,6 @@
 // What an answer of a call on outlines tells: its totals, zeros with every refusal; and three of the calls answered as a number and a buffer.
 ghost use mathlib.Core.Path.{_≡_};
 ghost use mathlib.Core.List.{[], _∷_};
-ghost use Rattle.outline.specs.EdgeSums.{zeros};
 ghost use Rattle.outline.specs.ListCall.{listCall};
 ghost use Rattle.outline.specs.MapCall.{mapCall};
 ghost use Rattle.outline_answers.specs.ListAnswer.{reading as listReading};
@@ -14,17 +13,10 @@ use affine::MapAnswer;
 use centroid::CentroidAnswer;
 use outline::AffineMap;
 use outline::Totals;
-use outline::ZEROS;
 use outline_answers::EndAnswer;
 use outline_answers::OutlineAnswer;
+use outline_answers::no_totals;
 use replies::put_values;
-
-// The totals of a refusal, by the definition's name.
-fn no_totals() -> Totals
-    ensures { λ r. ⌜ r ≡ zeros ⌝ }
-{
-    ZEROS
-}
 
 // The totals that an answer of the list call tells.
 pub fn totals_of_list(answer: OutlineAnswer) -> Totals
@@ -74,7 +66,8 @@ fn centre_values(answer: CentroidAnswer) -> [i64; 2]
     }
 }
 
-fn put_totals(number: u32, t: Totals, out: &mut [i64]) -> u32
+// A number and six totals, told as a number and a buffer; the totals of a mask are told by it too.
+pub fn put_totals(number: u32, t: Totals, out: &mut [i64]) -> u32
     ensures { λ r. ⌜ record { number = r; buffer = now (out .exit) } ≡ totalsReply (record { number = number; totals = t }) (now (out .entry)) ⌝ }
 {
     let values = [t.a2, t.x6, t.y6, t.xx12, t.xy24, t.yy12];
@@ -97,7 +90,7 @@ pub fn map_totals_reply(m: AffineMap, t: Totals, out: &mut [i64]) -> u32
     put_totals(answer.number(), totals_of_map(answer), out)
 }
 
-// The centre of six outline totals: 0, 11 or 27, and the centre's x and y.
+// The centre of six totals, of an outline, a sheet or cells: 0, 11 or 27, and the centre's x and y.
 pub fn outline_centroid_reply(t: Totals, out: &mut [i64]) -> u32
     ensures { λ r. ⌜ record { number = r; buffer = now (out .exit) } ≡ centreReply (outlineCentroidCall t) (now (out .entry)) ⌝ }
 {

@@ -1,33 +1,12 @@
 -- `outline_calls::add` meets its contract: two numbers of at most 10^18 in size have a sum that fits 64 bits.
-use mathlib.Core.Path.{_≡_}
-use mathlib.Core.List.{List, [], _∷_}
-use Prim.Native.Nat.{_≤_}
-use lib.IntN.{ℤ, natAbs, _+ℤ_}
-use mir.Syntax.{w64}
-use mir.Val.{SFits, toZ, ofZ}
-use Rattle.integers.proofs.SignedCode.{code}
-use Rattle.integers.proofs.SizedNumbers.{Sized, sized, fits, is-plain}
 use Rattle.outline.specs.declared.Totals.{Totals}
-use Rattle.outline.specs.MapCall.{totalLimit, totalLimits}
+use Rattle.outline.specs.MapCall.{totalLimits}
 use Rattle.outline.specs.private.Fit.{Fit}
 use Rattle.outline.proofs.Limits.{exceed-fit}
 use Rattle.outline.proofs.TotalsLaws.{totals-equal}
+use Rattle.limits.proofs.TotalSums.{sum-fits, sum-is}
 use Rattle.outline_calls.proofs.add.Statement.{statement}
 use Rattle.outline_calls.proofs.add.Tie as tie
-
--- A number as the code reads it from a local.
-abbrev read : ℤ → ℤ
-read a = toZ w64 (ofZ w64 a)
-
-module _ (a b : ℤ) (h : natAbs a ≤ totalLimit) (k : natAbs b ≤ totalLimit) where
-  abbrev operands : List Sized
-  operands = sized a h ∷ sized b k ∷ []
-
-  sum-fits : SFits w64 (read a +ℤ read b)
-  sum-fits = fits operands (search code depth 40) tt
-
-  sum-is : read (read a +ℤ read b) ≡ a +ℤ b
-  sum-is = is-plain operands (search code depth 40) tt
 
 module _ (start : tie.Start) where
   abbrev s : Totals

@@ -1,0 +1,4 @@
+pub mod CellSums
+pub mod Ground
+pub mod GroundLaws
+pub mod private
