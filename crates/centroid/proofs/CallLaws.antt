@@ -1,4 +1,4 @@
--- What the outcomes of the two calls for a centre say: where there is a centre, D is above 0, the inequality holds of each of its numbers and of no other; else it is zeros.
+-- What the outcome of the call for a centre says: where there is a centre, D is above 0, the inequality holds of each of its numbers and of no other; else it is zeros.
 use mathlib.Core.Path.{_≡_, refl}
 use mathlib.Core.Bool.{Bool, true, false, cond}
 use mathlib.Core.Logic.{_≢_}
@@ -10,10 +10,9 @@ use Rattle.outline.specs.declared.Totals.{Totals}
 use Rattle.outline.specs.EdgeSums.{exceed}
 use Rattle.outline.specs.MapCall.{totalLimits}
 use Rattle.outline.proofs.Limits.{exceed-fit}
-use Rattle.centroid.specs.declared.CellSums.{CellSums}
-use Rattle.centroid.specs.Centroid.{CentroidOutcome, refused, centred, isCentre, centre, signedBy, outlineCentroidCall, sumsOutside, regionCentroidCall}
+use Rattle.centroid.specs.Centroid.{CentroidOutcome, refused, centred, isCentre, centre, signedBy, outlineCentroidCall}
 use Rattle.centroid.proofs.CentreLaw.{centre-holds, centre-only}
-use Rattle.centroid.proofs.Limits.{bounds, bounds-above, bounds-below, sums-within}
+use Rattle.centroid.proofs.Limits.{bounds-above, bounds-below}
 
 -- k is the one centre of N and D.
 pub record IsTheCentre (n d k : ℤ) : Type 0 where
@@ -46,7 +45,3 @@ three-areas t e f = go (ltZ (t .a2) (pos 0)) refl
 pub outline-centre : (t : Totals) → Centred (signedBy (t .a2) (t .x6)) (signedBy (t .a2) (t .y6)) (signedBy (t .a2) (pos 3 *ℤ t .a2)) (outlineCentroidCall t)
 unfolding outlineCentroidCall
 outline-centre t = by-tests _ _ _ (exceed totalLimits t) (eqb (natAbs (t .a2)) 0) (three-areas t)
-
-pub region-centre : (s : CellSums) → Centred (s .x) (s .y) (s .count) (regionCentroidCall s)
-unfolding regionCentroidCall
-region-centre s = by-tests _ _ _ (sumsOutside s) (eqb (natAbs (s .count)) 0) (λ e f. let k = sums-within s e in bounds (s .x) (s .count) (k .x) (omega (arith, k .count)) f (k .sign) .above)

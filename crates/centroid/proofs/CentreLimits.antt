@@ -1,27 +1,25 @@
--- Both sides of each limit of 11, at each of the six totals and sums, and where 27 comes, by computation from the definitions.
+-- Both sides of each limit of 11, at each of the six totals, and where 27 comes, by computation from the definitions.
 use Prim.Native.Nat.{ℕ, _+_, _^_}
 use mathlib.Core.Path.{_≡_, refl}
 use mathlib.Core.List.{List, [], _∷_, map}
 use lib.IntN.{ℤ, pos, negsuc}
 use lib.ListN.{replicate}
+use Rattle.outline.specs.declared.Totals.{Totals}
 use Rattle.outline.specs.EdgeSums.{over, exceed}
-use Rattle.centroid.specs.Centroid.{isCentre, firstCentre, centre, outlineCentroidCall, outsideLimit, sumsOutside, regionCentroidCall}
-use Rattle.centroid.proofs.WorkedCentres.{totals, cells}
+use Rattle.centroid.specs.Centroid.{isCentre, firstCentre, centre, outlineCentroidCall}
+use Rattle.centroid.proofs.WorkedCentres.{totals}
 
--- Six numbers of which one is z and the others are 0: each of the six in turn, the area first.
-abbrev inTurn : {A : Type 0} → (ℤ → ℤ → ℤ → ℤ → ℤ → ℤ → A) → ℤ → List A
-inTurn f z =
+-- Six totals of which one is z and the others are 0: each of the six in turn, the area first.
+abbrev inTurn : ℤ → List Totals
+inTurn z =
     let o = pos 0 in
-    f z o o o o o ∷ f o z o o o o ∷ f o o z o o o ∷ f o o o z o o ∷ f o o o o z o ∷ f o o o o o z ∷ []
+    totals z o o o o o ∷ totals o z o o o o ∷ totals o o z o o o ∷ totals o o o z o o ∷ totals o o o o z o ∷ totals o o o o o z ∷ []
 
 -- The numbers answered for these. But for the first, the area is 0: what 11 does not refuse is 27, and what 11 refuses is 11 before 27.
 abbrev outlines : ℤ → List ℕ
-outlines z = map (λ t. outlineCentroidCall t .number) (inTurn totals z)
+outlines z = map (λ t. outlineCentroidCall t .number) (inTurn z)
 
-abbrev regions : ℤ → List ℕ
-regions z = map (λ s. regionCentroidCall s .number) (inTurn cells z)
-
--- ---- outline totals
+-- ---- the limits of 11, and 27 behind them
 
 record Outlines : Type 0 where
   none : outlines (pos 0) ≡ replicate 6 27
@@ -35,21 +33,6 @@ record Outlines : Type 0 where
 outline-numbers : Outlines
 unfolding over exceed outlineCentroidCall
 outline-numbers = record { none = refl; one = refl; minus-one = refl; largest = refl; one-above = refl; least = refl; one-below = refl }
-
--- ---- cell sums: A has a limit of its own
-
-record Regions : Type 0 where
-  none : regions (pos 0) ≡ replicate 6 27
-  one : regions (pos 1) ≡ 0 ∷ replicate 5 27
-  minus-one : regions (negsuc 0) ≡ replicate 6 11
-  whole-grid : regions (pos 1_048_576) ≡ 0 ∷ replicate 5 27
-  one-cell-more : regions (pos 1_048_577) ≡ 11 ∷ replicate 5 27
-  largest : regions (pos (10 ^ 18)) ≡ 11 ∷ replicate 5 27
-  one-above : regions (pos (10 ^ 18 + 1)) ≡ replicate 6 11
-
-region-numbers : Regions
-unfolding outsideLimit sumsOutside regionCentroidCall
-region-numbers = record { none = refl; one = refl; minus-one = refl; whole-grid = refl; one-cell-more = refl; largest = refl; one-above = refl }
 
 -- ---- the quotient: from -6/4 to 6/4
 

@@ -4,5 +4,4 @@ pub mod ReadingLaw
 pub mod WorkedCentres
 pub mod CentreLimits
 pub mod CodeTests
-pub mod Fields
 pub mod Limits

@@ -1,12 +1,11 @@
--- Centres that the definitions give, each by computation: of the plots of document 01, "Plots worked by hand", and where x and y could be exchanged unseen.
+-- Centres that the definitions give, each by computation: of the plots of document 01, "Plots worked by hand", of cells by the outline rule (document 02, CR 2), and where x and y could be exchanged unseen.
 use mathlib.Core.Path.{_≡_, refl}
 use mathlib.Core.List.{List, [], _∷_}
 use lib.IntN.{ℤ, pos, negsuc}
 use Rattle.outline.specs.declared.Totals.{Totals}
 use Rattle.outline.specs.EdgeSums.{outlineTotals, edges, openEdges, sumOver, zeros, over, exceed}
 use Rattle.outline.specs.ListCall.{points}
-use Rattle.centroid.specs.declared.CellSums.{CellSums}
-use Rattle.centroid.specs.Centroid.{CentroidOutcome, refused, isCentre, firstCentre, centre, outlineCentroidCall, signedBy, outsideLimit, sumsOutside, regionCentroidCall}
+use Rattle.centroid.specs.Centroid.{CentroidOutcome, refused, isCentre, firstCentre, centre, outlineCentroidCall, signedBy}
 
 abbrev at : ℤ → ℤ → CentroidOutcome
 at x y = record { number = 0; x = x; y = y }
@@ -17,9 +16,6 @@ ofPoints zs = outlineCentroidCall (outlineTotals (points zs))
 
 abbrev pub totals : ℤ → ℤ → ℤ → ℤ → ℤ → ℤ → Totals
 totals a2 x6 y6 xx12 xy24 yy12 = record { a2 = a2; x6 = x6; y6 = y6; xx12 = xx12; xy24 = xy24; yy12 = yy12 }
-
-abbrev pub cells : ℤ → ℤ → ℤ → ℤ → ℤ → ℤ → CellSums
-cells a x y xx xy yy = record { count = a; x = x; y = y; xx = xx; xy = xy; yy = yy }
 
 -- ---- halves go up: document 01, "Errors a surveyor would not notice"
 
@@ -61,18 +57,24 @@ figure-eight : ofPoints (pos 0 ∷ pos 0 ∷ pos 2 ∷ pos 2 ∷ pos 2 ∷ pos 0
 unfolding points edges openEdges sumOver outlineCentroidCall over exceed
 figure-eight = refl
 
+-- no edge, or no cell
 no-area : outlineCentroidCall zeros ≡ refused 27
 unfolding outlineCentroidCall over exceed
 no-area = refl
 
--- ---- cells
+-- ---- cells: the totals are those of their ground
 
--- the run in row 3 from column 2, of length 3
-run : regionCentroidCall (cells (pos 3) (pos 9) (pos 9) (pos 29) (pos 27) (pos 27)) ≡ at (pos 3) (pos 3)
-unfolding isCentre firstCentre centre outsideLimit sumsOutside regionCentroidCall
+-- the run in row 3 from column 2, of length 3: 63/18 is 7/2, and a half goes up. The sum of x over the number of cells would give 3.
+run : outlineCentroidCall (totals (pos 6) (pos 63) (pos 63) (pos 468) (pos 882) (pos 444)) ≡ at (pos 4) (pos 4)
+unfolding isCentre firstCentre centre outlineCentroidCall signedBy over exceed
 run = refl
 
--- the cells (1,0) and (2,1): 3/2 and 1/2, and halves go up
-two-cells : regionCentroidCall (cells (pos 2) (pos 3) (pos 1) (pos 5) (pos 2) (pos 1)) ≡ at (pos 2) (pos 1)
-unfolding isCentre firstCentre centre outsideLimit sumsOutside regionCentroidCall
+-- the runs of length 3 in row 0 and of length 1 in row 1, both from column 0: 5/4 and 3/4
+two-runs : outlineCentroidCall (totals (pos 8) (pos 30) (pos 18) (pos 112) (pos 72) (pos 40)) ≡ at (pos 1) (pos 1)
+unfolding isCentre firstCentre centre outlineCentroidCall signedBy over exceed
+two-runs = refl
+
+-- the cells (1,0) and (2,1): x and y differ
+two-cells : outlineCentroidCall (totals (pos 4) (pos 24) (pos 12) (pos 104) (pos 108) (pos 32)) ≡ at (pos 2) (pos 1)
+unfolding isCentre firstCentre centre outlineCentroidCall signedBy over exceed
 two-cells = refl

@@ -1,13 +1,12 @@
--- Document 01, "Centre" and the refusals 11 and 27: the centre of outline totals and of cell sums.
+-- Document 01, "Centre" and the refusals 11 and 27: the centre of six totals. Cells follow the outline rule (document 02, CR 2).
 use Prim.Native.Nat.{ℕ, zero, suc, _*_}
-use mathlib.Core.Bool.{Bool, _&&_, _||_, cond}
+use mathlib.Core.Bool.{Bool, _&&_, cond}
 use lib.Dec.{eqb}
 use lib.IntN.{ℤ, pos, negℤ, natAbs, _+ℤ_, _-ℤ_, _*ℤ_}
 use lib.Signed.{leZ, ltZ}
 use Rattle.outline.specs.declared.Totals.{Totals}
 use Rattle.outline.specs.EdgeSums.{exceed}
-use Rattle.outline.specs.MapCall.{totalLimit, totalLimits}
-use Rattle.centroid.specs.declared.CellSums.{CellSums}
+use Rattle.outline.specs.MapCall.{totalLimits}
 
 -- ---- the quotient of N and D, rounded to a whole number
 
@@ -36,7 +35,7 @@ pub record CentroidOutcome : Type 0 where
 abbrev pub refused : ℕ → CentroidOutcome
 refused n = record { number = n; x = pos 0; y = pos 0 }
 
--- The centre's x and y, each from its own N, over one D. Its unit is that of the coordinates: decimetres or, for a region, cells.
+-- The centre's x and y, each from its own N, over one D. In decimetres: the side of a cell counts as one.
 abbrev pub centred : ℤ → ℤ → ℤ → CentroidOutcome
 centred nx ny d = record { number = 0; x = centre nx d; y = centre ny d }
 
@@ -45,34 +44,9 @@ unfoldable pub signedBy : ℤ → ℤ → ℤ
 signedBy a2 z = cond (ltZ a2 (pos 0)) (negℤ z) z
 
 -- Refusal 11: a total is over its limit. Refusal 27: A2 is 0. Order: 11, 27.
--- Else the quotients of an outline or a sheet: a first moment over three times the area total, signs turned so that the divisor is above 0.
+-- Else the quotients of an outline, a sheet or cells: a first moment over three times the area total, signs turned so that the divisor is above 0.
 unfoldable pub outlineCentroidCall : Totals → CentroidOutcome
 outlineCentroidCall t =
     cond (exceed totalLimits t) (refused 11)
     (cond (eqb (natAbs (t .a2)) 0) (refused 27)
     (centred (signedBy (t .a2) (t .x6)) (signedBy (t .a2) (t .y6)) (signedBy (t .a2) (pos 3 *ℤ t .a2))))
-
--- The limit of A: the cells of 1,024 rows and 1,024 columns.
-abbrev pub cellLimit : ℕ
-cellLimit = 1_048_576
-
--- A cell sum is negative or over its limit.
-unfoldable pub outsideLimit : ℤ → ℤ → Bool
-outsideLimit limit z = ltZ z (pos 0) || ltZ limit z
-
--- Refusal 11 for cell sums: A is over its limit, another sum is over the limit of a total, or any of the six is negative.
-unfoldable pub sumsOutside : CellSums → Bool
-sumsOutside s =
-    outsideLimit (pos cellLimit) (s .count)
-    || outsideLimit (pos totalLimit) (s .x)
-    || outsideLimit (pos totalLimit) (s .y)
-    || outsideLimit (pos totalLimit) (s .xx)
-    || outsideLimit (pos totalLimit) (s .xy)
-    || outsideLimit (pos totalLimit) (s .yy)
-
--- The quotients of cells: the sum of an index over the number of cells; 27 where there are none, after 11.
-unfoldable pub regionCentroidCall : CellSums → CentroidOutcome
-regionCentroidCall s =
-    cond (sumsOutside s) (refused 11)
-    (cond (eqb (natAbs (s .count)) 0) (refused 27)
-    (centred (s .x) (s .y) (s .count)))

@@ -7,8 +7,6 @@ use mathlib.Core.List.{List, [], _∷_}
 use lib.Dec.{eqb}
 use lib.IntN.{ℤ, pos, negℤ, natAbs, _-ℤ_, _*ℤ_, +ℤ-idl}
 use lib.Signed.{ltZ}
-use mir.Syntax.{w64}
-use mir.Val.{toZ, ofZ}
 use mir.Facts.{toZ-ofZ}
 use Rattle.integers.proofs.Flags.{tells}
 use Rattle.integers.proofs.SignedCode.{code}
