@@ -4,42 +4,49 @@ use mathlib.Core.Path.{_≡_, refl, sym, _∙_, ap}
 use mathlib.Core.Bool.{Bool, true, false, cond, false≢true}
 use mathlib.Core.List.{List, [], _∷_}
 use native.Mathlib.Omega.{arith}
-use Rattle.centroid.specs.declared.CellSums.{CellSums}
+use Rattle.outline.specs.declared.Totals.{Totals}
+use Rattle.cell_ground.specs.Ground.{groundOf}
 use Rattle.cells.specs.declared.Run.{Run}
 use Rattle.cells.specs.declared.RegionAnswer.{RegionAnswer}
-use Rattle.cells.specs.declared.RegionAnswer.the-variants.{BadRun, OutOfOrder}
-use Rattle.cells.specs.CellSums.{regionSums}
+use Rattle.cells.specs.declared.RegionAnswer.the-variants.{Accepted, BadRun, OutOfOrder}
+use Rattle.cells.specs.RunCells.{allCells}
 use Rattle.cells.specs.RegionCall.{RegionOutcome, refused, badRun, anyBad, liesAfter, disordered, tooMany, regionCall, reading, Answers}
-use Rattle.cells.proofs.RunLimits.{run}
+use Rattle.cells.proofs.AnswerReading.{reading-one-to-one}
+use Rattle.cells.proofs.RunLimits.{run, severalRuns, severalTotals, accepted}
 
 -- ---- all but the index follows from the runs
 
 pub record SameButIndex (o p : RegionOutcome) : Type 0 where
   pub number : o .number ≡ p .number
-  pub sums : o .sums ≡ p .sums
+  pub totals : o .totals ≡ p .totals
 
 outcomes-agree : (rs : List Run) (i j : ℕ) → SameButIndex (regionCall rs i) (regionCall rs j)
 unfolding regionCall
-outcomes-agree rs i j = go (tooMany rs) (anyBad rs) (disordered rs) (regionSums rs)
+outcomes-agree rs i j = go (tooMany rs) (anyBad rs) (disordered rs) (groundOf (allCells rs))
   where
-    call : Bool → Bool → Bool → CellSums → ℕ → RegionOutcome
-    call a b c s k = cond a (refused 8 0) (cond b (refused 6 k) (cond c (refused 7 k) (record { number = 0; index = 0; sums = s })))
+    call : Bool → Bool → Bool → Totals → ℕ → RegionOutcome
+    call a b c t k = cond a (refused 8 0) (cond b (refused 6 k) (cond c (refused 7 k) (record { number = 0; index = 0; totals = t })))
 
-    go : (a b c : Bool) (s : CellSums) → SameButIndex (call a b c s i) (call a b c s j)
-    go true b c s = record { number = refl; sums = refl }
-    go false true c s = record { number = refl; sums = refl }
-    go false false true s = record { number = refl; sums = refl }
-    go false false false s = record { number = refl; sums = refl }
+    go : (a b c : Bool) (t : Totals) → SameButIndex (call a b c t i) (call a b c t j)
+    go true b c t = record { number = refl; totals = refl }
+    go false true c t = record { number = refl; totals = refl }
+    go false false true t = record { number = refl; totals = refl }
+    go false false false t = record { number = refl; totals = refl }
 
 pub answers-agree : (rs : List Run) (a b : RegionAnswer) → Answers rs a → Answers rs b → SameButIndex (reading a) (reading b)
 answers-agree rs a b f g =
     record {
       number = ap (λ (o : RegionOutcome). o .number) (f .outcome) ∙ same .number ∙ sym (ap (λ (o : RegionOutcome). o .number) (g .outcome));
-      sums = ap (λ (o : RegionOutcome). o .sums) (f .outcome) ∙ same .sums ∙ sym (ap (λ (o : RegionOutcome). o .sums) (g .outcome));
+      totals = ap (λ (o : RegionOutcome). o .totals) (f .outcome) ∙ same .totals ∙ sym (ap (λ (o : RegionOutcome). o .totals) (g .outcome));
     }
   where
     same : SameButIndex (regionCall rs (reading a .index)) (regionCall rs (reading b .index))
     same = outcomes-agree rs _ _
+
+-- ---- an accepted list has one answer
+
+pub only-answer : (a : RegionAnswer) → Answers severalRuns a → a ≡ Accepted severalTotals
+only-answer a h = reading-one-to-one a (Accepted severalTotals) (h .outcome ∙ accepted .several-runs (reading a .index))
 
 -- ---- the index with 6
 

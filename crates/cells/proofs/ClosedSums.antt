@@ -1,53 +1,50 @@
--- A run's sums in closed form are its sums cell by cell, by induction and the ring solver.
-use mathlib.Core.Path.{_≡_, sym, _∙_, ap, ap₂}
+-- A run's sums in closed form: its columns and their squares sum to the sums below its end less those below its first column.
+use mathlib.Core.Path.{_≡_, refl, sym, _∙_, ap}
 use mathlib.Core.List.{[], _∷_}
-use Prim.Native.Nat.{ℕ, zero, suc, _+_}
+use Prim.Native.Nat.{ℕ, zero, suc, _+_, _*_}
 use native.Mathlib.Nat.{add-zero}
-use native.Mathlib.Numerals.{add-one}
 use native.Mathlib.Omega.{arith}
-use lib.IntN.{ℤ, pos, _+ℤ_, _-ℤ_, _*ℤ_, +ℤ-invr}
+use lib.IntN.{ℤ, pos, _+ℤ_, _-ℤ_, +ℤ-invr}
 use Rattle.integers.proofs.Ring.{ring, quote}
-use Rattle.centroid.specs.declared.CellSums.{CellSums}
-use Rattle.cells.specs.CellSums.{cellsFrom, cellTerms, zeros, plus, sumsOver}
+use Rattle.outline.proofs.Every.{All}
 use Rattle.column_sums.specs.SumsBelow.{indexSum, squareSum}
+use Rattle.cell_ground.specs.CellSums.{sumsOver}
+use Rattle.cell_ground.specs.Ground.{rowSums}
+use Rattle.cell_ground.proofs.SumLaws.{count-cells}
+use Rattle.cell_ground.proofs.RowSums.{InRow, one-row}
+use Rattle.cells.specs.RunCells.{cellsFrom}
+use Rattle.cells.proofs.GridLaws.{from-length}
 
--- n cells of row y: a and s are the sums of indices and of squares below the first column, e and f those below the end.
-abbrev pub closed : (n y a e s f : ℤ) → CellSums
-closed n y a e s f = record { count = n; x = e -ℤ a; y = n *ℤ y; xx = f -ℤ s; xy = (e -ℤ a) *ℤ y; yy = n *ℤ y *ℤ y }
+-- The sums below the end and below the first number, of any terms.
+abbrev pub between : ℕ → ℕ → ℤ
+between end first = pos end -ℤ pos first
 
-closed-none : (y a s : ℤ) → zeros ≡ closed (pos 0) y a a s s
-closed-none y a s =
-    λ i. record {
-      count = pos 0;
-      x = sym (+ℤ-invr a) i;
-      y = ring (y ∷ []) {a = pos 0} {b = pos 0 *ℤ y} (search quote depth 60 fits 20000) (search quote depth 60 fits 20000) tt i;
-      xx = sym (+ℤ-invr s) i;
-      xy = ring (y ∷ a ∷ []) {a = pos 0} {b = (a -ℤ a) *ℤ y} (search quote depth 60 fits 20000) (search quote depth 60 fits 20000) tt i;
-      yy = ring (y ∷ []) {a = pos 0} {b = pos 0 *ℤ y *ℤ y} (search quote depth 60 fits 20000) (search quote depth 60 fits 20000) tt i;
-    }
+-- One term more in front.
+one-more : (t s e : ℤ) → t +ℤ (e -ℤ (s +ℤ t)) ≡ e -ℤ s
+one-more t s e = ring (t ∷ s ∷ e ∷ []) (search quote depth 20) (search quote depth 20) tt
 
--- One cell more before them, at column x.
-closed-more : (n x y a e s f : ℤ)
-    → plus (record { count = pos 1; x = x; y = y; xx = x *ℤ x; xy = x *ℤ y; yy = y *ℤ y }) (closed n y (a +ℤ x) e (s +ℤ x *ℤ x) f) ≡ closed (n +ℤ pos 1) y a e s f
-closed-more n x y a e s f =
-    λ i. record {
-      count = ring (n ∷ []) {a = pos 1 +ℤ n} {b = n +ℤ pos 1} (search quote depth 60 fits 20000) (search quote depth 60 fits 20000) tt i;
-      x = ring (x ∷ a ∷ e ∷ []) {a = x +ℤ (e -ℤ (a +ℤ x))} {b = e -ℤ a} (search quote depth 60 fits 20000) (search quote depth 60 fits 20000) tt i;
-      y = ring (n ∷ y ∷ []) {a = y +ℤ n *ℤ y} {b = (n +ℤ pos 1) *ℤ y} (search quote depth 60 fits 20000) (search quote depth 60 fits 20000) tt i;
-      xx = ring (x ∷ s ∷ f ∷ []) {a = x *ℤ x +ℤ (f -ℤ (s +ℤ x *ℤ x))} {b = f -ℤ s} (search quote depth 60 fits 20000) (search quote depth 60 fits 20000) tt i;
-      xy = ring (x ∷ y ∷ a ∷ e ∷ []) {a = x *ℤ y +ℤ (e -ℤ (a +ℤ x)) *ℤ y} {b = (e -ℤ a) *ℤ y} (search quote depth 60 fits 20000) (search quote depth 60 fits 20000) tt i;
-      yy = ring (n ∷ y ∷ []) {a = y *ℤ y +ℤ n *ℤ y *ℤ y} {b = (n +ℤ pos 1) *ℤ y *ℤ y} (search quote depth 60 fits 20000) (search quote depth 60 fits 20000) tt i;
-    }
+none-between : (S : ℕ → ℕ) (x : ℕ) → pos 0 ≡ between (S (x + 0)) (S x)
+none-between S x = sym (+ℤ-invr (pos (S x))) ∙ ap (λ k. between (S k) (S x)) (sym (add-zero x))
 
--- n cells of row y, from column x to below column m.
-abbrev pub closedRun : (n y x m : ℕ) → CellSums
-closedRun n y x m = closed (pos n) (pos y) (pos (indexSum x)) (pos (indexSum m)) (pos (squareSum x)) (pos (squareSum m))
+module _ (y : ℕ) where
+  columns : (x n : ℕ) → sumsOver (cellsFrom y x n) .x ≡ between (indexSum (x + n)) (indexSum x)
+  unfolding sumsOver cellsFrom indexSum
+  columns x zero = none-between indexSum x
+  columns x (suc n) =
+      let e : suc x + n ≡ x + suc n = omega arith in
+      ap (λ z. pos x +ℤ z) (columns (suc x) n) ∙ one-more (pos x) (pos (indexSum x)) (pos (indexSum (suc x + n))) ∙ ap (λ k. between (indexSum k) (indexSum x)) e
 
-pub run-closed : (y x n : ℕ) → sumsOver (cellsFrom y x n) ≡ closedRun n y x (x + n)
-unfolding sumsOver cellsFrom indexSum squareSum
-run-closed y x zero = closed-none (pos y) (pos (indexSum x)) (pos (squareSum x)) ∙ ap (closedRun 0 y x) (sym (add-zero x))
-run-closed y x (suc n) =
-    let e : suc x + n ≡ x + suc n = omega arith in
-    ap (plus (cellTerms (record { x = x; y = y }))) (run-closed y (suc x) n)
-    ∙ closed-more (pos n) (pos x) (pos y) (pos (indexSum x)) (pos (indexSum (suc x + n))) (pos (squareSum x)) (pos (squareSum (suc x + n)))
-    ∙ ap₂ (λ k m. closedRun k y x m) (add-one n) e
+  squares : (x n : ℕ) → sumsOver (cellsFrom y x n) .xx ≡ between (squareSum (x + n)) (squareSum x)
+  unfolding sumsOver cellsFrom squareSum
+  squares x zero = none-between squareSum x
+  squares x (suc n) =
+      let e : suc x + n ≡ x + suc n = omega arith in
+      ap (λ z. pos (x * x) +ℤ z) (squares (suc x) n) ∙ one-more (pos (x * x)) (pos (squareSum x)) (pos (squareSum (suc x + n))) ∙ ap (λ k. between (squareSum k) (squareSum x)) e
+
+  in-row : (x n : ℕ) → All (InRow y) (cellsFrom y x n)
+  unfolding cellsFrom
+  in-row x zero = tt
+  in-row x (suc n) = (refl, in-row (suc x) n)
+
+  pub run-closed : (x n : ℕ) → sumsOver (cellsFrom y x n) ≡ rowSums (pos y) (pos n) (between (indexSum (x + n)) (indexSum x)) (between (squareSum (x + n)) (squareSum x))
+  run-closed x n = one-row y (cellsFrom y x n) (in-row x n) ∙ (λ i. rowSums (pos y) ((count-cells (cellsFrom y x n) ∙ ap pos (from-length y x n)) i) (columns x n i) (squares x n i))

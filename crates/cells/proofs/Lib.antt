@@ -1,10 +1,13 @@
 pub mod RefusalLaw
 pub mod Tests
+pub mod GridLaws
 pub mod ClosedSums
-pub mod SumLaws
 pub mod ScanLaws
 pub mod AnswerReading
+pub mod RegionGround
 pub mod UniqueCells
 pub mod WorkedRun
 pub mod RunLimits
 pub mod AllowedAnswers
+mod RegionUses
+mod WholeGrid

@@ -1,11 +1,14 @@
--- Both sides of each limit of the refusals 6, 7 and 8, their order, and the sums of several runs, each by computation from the definitions.
+-- Both sides of each limit of the refusals 6, 7 and 8, their order, and the totals of several runs, each by computation from the definitions.
 use Prim.Native.Nat.{ℕ, zero, suc}
 use mathlib.Core.Path.{_≡_, refl}
 use mathlib.Core.List.{List, [], _∷_, map}
 use lib.IntN.{pos}
 use lib.ListN.{replicate}
 use Rattle.cells.specs.declared.Run.{Run}
-use Rattle.cells.specs.CellSums.{cellsFrom, cellsOf, allCells, sumsOver}
+use Rattle.outline.specs.declared.Totals.{Totals}
+use Rattle.cell_ground.specs.CellSums.{sumsOver}
+use Rattle.cell_ground.specs.Ground.{groundOf}
+use Rattle.cells.specs.RunCells.{cellsFrom, cellsOf, allCells}
 use Rattle.cells.specs.RegionCall.{badRun, anyBad, liesAfter, disordered, tooMany, regionCall}
 
 abbrev pub run : ℕ → ℕ → ℕ → Run
@@ -70,13 +73,21 @@ order : Order
 unfolding badRun anyBad liesAfter disordered tooMany regionCall
 order = record { eight-before-six = refl; eight-before-seven = refl; six-before-seven = refl }
 
--- ---- sums
+-- ---- totals
 
-record Accepted : Type 0 where
-  -- the cells (2,1) (3,1) (6,1) (0,4) (1,4): x is the column, y the row, and no two of the six sums are equal
-  several-runs : (i : ℕ) → regionCall (run 1 2 2 ∷ run 1 6 1 ∷ run 4 0 2 ∷ []) i ≡ record { number = 0; index = 0; sums = record { count = pos 5; x = pos 12; y = pos 11; xx = pos 50; xy = pos 15; yy = pos 35 } }
-  no-runs : (i : ℕ) → regionCall [] i ≡ record { number = 0; index = 0; sums = record { count = pos 0; x = pos 0; y = pos 0; xx = pos 0; xy = pos 0; yy = pos 0 } }
+-- the cells (2,1) (3,1) (6,1) (0,4) (1,4): x is the column, y the row, and no two of the six totals are equal
+abbrev pub severalRuns : List Run
+severalRuns = run 1 2 2 ∷ run 1 6 1 ∷ run 4 0 2 ∷ []
 
-accepted : Accepted
-unfolding cellsFrom cellsOf allCells sumsOver badRun anyBad liesAfter disordered tooMany regionCall
-accepted = record { several-runs = λ i. refl; no-runs = λ i. refl }
+abbrev pub severalTotals : Totals
+severalTotals = record { a2 = pos 10; x6 = pos 87; y6 = pos 81; xx12 = pos 764; xy24 = pos 666; yy12 = pos 572 }
+
+pub record Accepted : Type 0 where
+  pub several-runs : (i : ℕ) → regionCall severalRuns i ≡ record { number = 0; index = 0; totals = severalTotals }
+  -- three cells and one above the first: the ground is less than that of the rectangle round it
+  pub two-rows : (i : ℕ) → regionCall (run 0 0 3 ∷ run 1 0 1 ∷ []) i ≡ record { number = 0; index = 0; totals = record { a2 = pos 8; x6 = pos 30; y6 = pos 18; xx12 = pos 112; xy24 = pos 72; yy12 = pos 40 } }
+  pub no-runs : (i : ℕ) → regionCall [] i ≡ record { number = 0; index = 0; totals = record { a2 = pos 0; x6 = pos 0; y6 = pos 0; xx12 = pos 0; xy24 = pos 0; yy12 = pos 0 } }
+
+pub accepted : Accepted
+unfolding cellsFrom cellsOf allCells sumsOver groundOf badRun anyBad liesAfter disordered tooMany regionCall
+accepted = record { several-runs = λ i. refl; two-rows = λ i. refl; no-runs = λ i. refl }

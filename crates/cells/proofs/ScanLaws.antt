@@ -1,21 +1,25 @@
--- What a scan stands for: after each run its answer is the one that the call promises for the runs read so far.
+-- What a scan stands for: after each run, what it has found is what the call promises for the runs read so far.
 use mathlib.Core.Path.{_≡_, refl, sym, _∙_, ap}
 use mathlib.Core.Bool.{Bool, true, false, not, _&&_, _||_, cond, or-assoc, or-false, false≢true}
 use mathlib.Core.List.{List, [], _∷_, _++_, append-assoc, append-nil}
-use Prim.Native.Nat.{ℕ, zero, suc, _+_, _-_, _<_, _≤_, _^_}
+use Prim.Native.Nat.{ℕ, zero, suc, _+_, _-_, _<_, _≤_}
 use native.Mathlib.Omega.{arith}
 use lib.Dec.{leb, ltb, eqb, leb·zero}
 use lib.ListN.{length, length-append, List·getD-append}
 use lib.Seq.{getD-append-seam}
 use borrow.Author.Tests.{lt-ltb, le-ltb}
+use Rattle.cell_ground.specs.CellSums.{plusSums, sumsOver}
+use Rattle.cell_ground.specs.Ground.{groundOf}
+use Rattle.cell_ground.proofs.SumLaws.{sums-append}
 use Rattle.cells.specs.declared.Run.{Run}
 use Rattle.cells.specs.declared.Scan.{Scan}
-use Rattle.cells.specs.declared.RegionAnswer.{RegionAnswer}
-use Rattle.cells.specs.declared.RegionAnswer.the-variants.{Sums, BadRun, OutOfOrder, TooManyRuns}
-use Rattle.cells.specs.CellSums.{cellsOf, allCells, plus, sumsOver, regionSums}
-use Rattle.cells.specs.RegionCall.{emptyRun, badRun, anyBad, liesAfter, disordered, tooMany, regionCall, reading, runAt, BreaksSix, BreaksSeven, Answers}
-use Rattle.cells.specs.private.Scan.{noRuns, answerWith, addRun, SumsWithin, HasRoom}
-use Rattle.cells.proofs.SumLaws.{widen, zeros-within, sums-append, all-within}
+use Rattle.cells.specs.declared.Found.{Found}
+use Rattle.cells.specs.declared.Found.the-variants.{Sums, BadRun, OutOfOrder}
+use Rattle.cells.specs.declared.RegionAnswer.the-variants.{TooManyRuns}
+use Rattle.cells.specs.RunCells.{cellsOf, allCells}
+use Rattle.cells.specs.RegionCall.{emptyRun, badRun, anyBad, liesAfter, disordered, tooMany, regionCall, runAt, BreaksSix, BreaksSeven, Answers}
+use Rattle.cells.specs.private.Scan.{held, sumsOf, noRuns, foundWith, addRun, answerOf, SumsSmall, HasRoom}
+use Rattle.cells.proofs.GridLaws.{runs-within}
 
 -- ---- one run more at the end of a list
 
@@ -61,13 +65,12 @@ cells-snoc (p ∷ rs) r = ap (λ l. cellsOf p ++ l) (cells-snoc rs r) ∙ sym (a
 length-snoc : (rs : List Run) (r : Run) → length (rs ++ r ∷ []) ≡ length rs + 1
 length-snoc rs r = length-append rs (r ∷ [])
 
--- ---- what an answer says of the runs read so far
+-- ---- what was found in the runs read so far
 
-abbrev pub Decided : List Run → RegionAnswer → Type 0
-Decided rs (Sums t) = (anyBad rs ≡ false) × ((disordered rs ≡ false) × (t ≡ regionSums rs))
+abbrev pub Decided : List Run → Found → Type 0
+Decided rs (Sums s) = (anyBad rs ≡ false) × ((disordered rs ≡ false) × (sumsOf s ≡ sumsOver (allCells rs)))
 Decided rs (BadRun i) = (anyBad rs ≡ true) × BreaksSix rs i
 Decided rs (OutOfOrder i) = (anyBad rs ≡ false) × ((disordered rs ≡ true) × BreaksSeven rs i)
-Decided rs TooManyRuns = ⊥
 
 module _ (rs : List Run) (r : Run) where
   abbrev more : List Run
@@ -98,12 +101,12 @@ seven-here (p ∷ qs) r e =
     }
 
 -- One run more.
-decided-next : (rs : List Run) (r : Run) (a : RegionAnswer) → Decided rs a → Decided (rs ++ r ∷ []) (answerWith a (length rs) (lastOf rs) r)
-unfolding answerWith
-decided-next rs r (Sums t) (b, (o, e)) = go (badRun r) refl (liesAfter (lastOf rs) r) refl
+decided-next : (rs : List Run) (r : Run) (a : Found) → Decided rs a → Decided (rs ++ r ∷ []) (foundWith a (length rs) (lastOf rs) r)
+unfolding foundWith
+decided-next rs r (Sums s) (b, (o, e)) = go (badRun r) refl (liesAfter (lastOf rs) r) refl
   where
     go : (x : Bool) → badRun r ≡ x → (y : Bool) → liesAfter (lastOf rs) r ≡ y
-        → Decided (rs ++ r ∷ []) (cond x (BadRun (length rs)) (cond (not y) (OutOfOrder (length rs)) (Sums (plus t (sumsOver (cellsOf r))))))
+        → Decided (rs ++ r ∷ []) (cond x (BadRun (length rs)) (cond (not y) (OutOfOrder (length rs)) (Sums (held (plusSums (sumsOf s) (sumsOver (cellsOf r)))))))
     go true p y q = (rw (bad-snoc rs r, b, p), six-here rs r p)
     go false p false q = (rw (bad-snoc rs r, b, p), (rw (order-snoc rs r, o, q), seven-here rs r q))
     go false p true q = (rw (bad-snoc rs r, b, p), (rw (order-snoc rs r, o, q), rw (cells-snoc rs r, sums-append, e)))
@@ -113,36 +116,37 @@ decided-next rs r (OutOfOrder i) (b, (o, h)) = go (badRun r) refl
     go : (x : Bool) → badRun r ≡ x → Decided (rs ++ r ∷ []) (cond x (BadRun (length rs)) (OutOfOrder i))
     go true p = (rw (bad-snoc rs r, b, p), six-here rs r p)
     go false p = (rw (bad-snoc rs r, b, p), (rw (order-snoc rs r, o), seven-stays rs r h))
-decided-next rs r TooManyRuns d = d
 
 -- ---- a scan of runs
 
 pub record Stands (rs : List Run) (s : Scan) : Type 0 where
   pub count : s .count ≡ length rs
   pub last : s .last ≡ lastOf rs
-  pub answer : Decided rs (s .answer)
+  pub found : Decided rs (s .found)
 
 pub at-start : Stands [] noRuns
 unfolding anyBad disordered sumsOver allCells
-at-start = record { count = refl; last = refl; answer = (refl, (refl, refl)) }
+at-start = record { count = refl; last = refl; found = (refl, (refl, refl)) }
 
 pub one-more : (rs : List Run) (r : Run) {s : Scan} → Stands rs s → Stands (rs ++ r ∷ []) (addRun s r)
 one-more rs r {s} h =
     record {
       count = ap (λ n. n + 1) (h .count) ∙ sym (length-snoc rs r);
       last = sym (last-snoc rs r);
-      answer = rw (h .count, h .last) (decided-next rs r (s .answer) (h .answer));
+      found = rw (h .count, h .last) (decided-next rs r (s .found) (h .found));
     }
 
--- There is room for another run.
-pub room : (rs : List Run) {s : Scan} → Stands rs s → length rs < 4096 → HasRoom s
-room rs {s} h l = record { runs = omega (arith, h .count); sums = go (s .answer) (h .answer) }
+-- The sums are as small as the code needs them, and there is room for another run.
+pub sums-small : (rs : List Run) {s : Scan} → Stands rs s → length rs ≤ 4096 → SumsSmall (s .found)
+sums-small rs {s} h l = go (s .found) (h .found)
   where
-    go : (a : RegionAnswer) → Decided rs a → SumsWithin (2 ^ 42) (reading a .sums)
-    go (Sums t) (b, (o, e)) = rw e (widen (omega arith) (all-within rs b))
-    go (BadRun i) d = zeros-within (2 ^ 42)
-    go (OutOfOrder i) d = zeros-within (2 ^ 42)
-    go TooManyRuns d = zeros-within (2 ^ 42)
+    go : (a : Found) → Decided rs a → SumsSmall a
+    go (Sums s) (b, (o, e)) = rw e (runs-within rs b l)
+    go (BadRun i) d = tt
+    go (OutOfOrder i) d = tt
+
+pub room : (rs : List Run) {s : Scan} → Stands rs s → length rs < 4096 → HasRoom s
+room rs h l = record { runs = omega (arith, h .count); sums = sums-small rs h (omega arith) }
 
 -- ---- the call's promise
 
@@ -154,15 +158,14 @@ many : (rs : List Run) → 4096 < length rs → tooMany rs ≡ true
 unfolding tooMany
 many rs l = lt-ltb _ (length rs) (omega arith)
 
-pub answered : (rs : List Run) {s : Scan} → Stands rs s → length rs ≤ 4096 → Answers rs (s .answer)
-unfolding regionCall
-answered rs {s} h l = go (s .answer) (h .answer)
+pub answered : (rs : List Run) {s : Scan} → Stands rs s → length rs ≤ 4096 → Answers rs (answerOf (s .found))
+unfolding regionCall groundOf
+answered rs {s} h l = go (s .found) (h .found)
   where
-    go : (a : RegionAnswer) → Decided rs a → Answers rs a
-    go (Sums t) (b, (o, e)) = record { outcome = rw (few rs l, b, o, e); six = λ z. absurd (omega arith); seven = λ z. absurd (omega arith) }
+    go : (a : Found) → Decided rs a → Answers rs (answerOf a)
+    go (Sums s) (b, (o, e)) = record { outcome = rw (few rs l, b, o, e); six = λ z. absurd (omega arith); seven = λ z. absurd (omega arith) }
     go (BadRun i) (b, k) = record { outcome = rw (few rs l, b); six = λ z. k; seven = λ z. absurd (omega arith) }
     go (OutOfOrder i) (b, (o, k)) = record { outcome = rw (few rs l, b, o); six = λ z. absurd (omega arith); seven = λ z. k }
-    go TooManyRuns d = absurd d
 
 pub too-many : (rs : List Run) → 4096 < length rs → Answers rs TooManyRuns
 unfolding regionCall

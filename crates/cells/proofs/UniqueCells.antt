@@ -1,6 +1,6 @@
 -- Accepted runs list no cell twice: their cells ascend by row and, in a row, by column.
 use mathlib.Core.Path.{_≡_, refl, sym, subst}
-use mathlib.Core.Bool.{Bool, true, false, not, _||_, _&&_, cond, false≢true}
+use mathlib.Core.Bool.{Bool, true, false, not, _||_, _&&_, false≢true}
 use mathlib.Core.List.{List, [], _∷_, _++_}
 use mathlib.Core.Logic.{_⊎_, inl, inr}
 use Prim.Native.Nat.{ℕ, zero, suc, _+_, _<_, _≤_}
@@ -9,10 +9,11 @@ use native.Mathlib.Omega.{arith}
 use lib.Dec.{leb, ltb, eqb}
 use lib.ListN.{length, getD}
 use borrow.Author.Tests.{ltb-true, leb-true, eqb-true, not-false}
-use Rattle.centroid.specs.declared.CellSums.{CellSums}
+use Rattle.cell_ground.specs.CellSums.{Cell, origin}
 use Rattle.cells.specs.declared.Run.{Run}
-use Rattle.cells.specs.CellSums.{Cell, origin, cellsFrom, cellsOf, allCells, EachOnce}
-use Rattle.cells.specs.RegionCall.{refused, anyBad, liesAfter, disordered, tooMany, regionCall}
+use Rattle.cells.specs.RunCells.{cellsFrom, cellsOf, allCells, EachOnce}
+use Rattle.cells.specs.RegionCall.{liesAfter, disordered, regionCall}
+use Rattle.cells.proofs.RegionGround.{accepted-runs}
 use Rattle.integers.proofs.Flags.{both-failed}
 
 -- Column v of row u is not before column x of row y.
@@ -76,20 +77,10 @@ ascending r (q ∷ qs) e =
     let (f, g) = both-failed (not (liesAfter r q)) (disordered (q ∷ qs)) e in
     run-ascends (r .row) (r .first) (r .length) (allCells (q ∷ qs)) (sooner (allCells (q ∷ qs)) (after-is r q (not-false (liesAfter r q) f)) (ascending q qs g))
 
-in-order : (rs : List Run) (i : ℕ) → regionCall rs i .number ≡ 0 → disordered rs ≡ false
-unfolding regionCall
-in-order rs i e = go (tooMany rs) (anyBad rs) (disordered rs) _ e
-  where
-    go : (a b c : Bool) (s : CellSums) → (cond a (refused 8 0) (cond b (refused 6 i) (cond c (refused 7 i) (record { number = 0; index = 0; sums = s })))) .number ≡ 0 → c ≡ false
-    go true b c s e = absurd (omega arith)
-    go false true c s e = absurd (omega arith)
-    go false false true s e = absurd (omega arith)
-    go false false false s e = refl
-
 pub each-cell-once : (rs : List Run) (i : ℕ) → regionCall rs i .number ≡ 0 → EachOnce (allCells rs)
 unfolding allCells
 each-cell-once [] i e = once 0 0 [] tt
-each-cell-once (r ∷ rs) i e = once (r .row) (r .first) (allCells (r ∷ rs)) (ascending r rs (in-order (r ∷ rs) i e))
+each-cell-once (r ∷ rs) i e = once (r .row) (r .first) (allCells (r ∷ rs)) (ascending r rs (accepted-runs (r ∷ rs) i e .ordered))
 
 -- The claim fails for a list in which a cell comes again, though not at once.
 cell-again : EachOnce (origin ∷ record { x = 1; y = 0 } ∷ origin ∷ []) → ⊥

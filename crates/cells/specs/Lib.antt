@@ -1,3 +1,4 @@
-pub mod CellSums
+pub mod RunCells
 pub mod RegionCall
+pub mod RegionLaws
 pub mod private

@@ -1,15 +1,17 @@
--- Document 01, "Cells" and the refusals 6, 7 and 8: the outcome of the call on a list of runs, and what its promise says.
+-- Document 01, "Cells" and the refusals 6, 7 and 8, with the totals of document 02, CR 2: the outcome of the call on a list of runs, and what its promise says.
 use Prim.Native.Nat.{ℕ, _+_, _-_, _<_, _≤_}
 use mathlib.Core.Path.{_≡_}
 use mathlib.Core.Bool.{Bool, true, false, not, _&&_, _||_, cond}
 use mathlib.Core.List.{List, [], _∷_}
 use lib.Dec.{leb, ltb, eqb}
 use lib.ListN.{length, getD}
-use Rattle.centroid.specs.declared.CellSums.{CellSums}
+use Rattle.outline.specs.declared.Totals.{Totals}
+use Rattle.outline.specs.EdgeSums.{zeros}
+use Rattle.cell_ground.specs.Ground.{groundOf}
 use Rattle.cells.specs.declared.Run.{Run}
 use Rattle.cells.specs.declared.RegionAnswer.{RegionAnswer}
-use Rattle.cells.specs.declared.RegionAnswer.the-variants.{Sums, BadRun, OutOfOrder, TooManyRuns}
-use Rattle.cells.specs.CellSums.{zeros, regionSums}
+use Rattle.cells.specs.declared.RegionAnswer.the-variants.{Accepted, BadRun, OutOfOrder, TooManyRuns}
+use Rattle.cells.specs.RunCells.{allCells}
 
 abbrev pub emptyRun : Run
 emptyRun = record { row = 0; first = 0; length = 0 }
@@ -40,28 +42,28 @@ tooMany rs = ltb 4096 (length rs)
 
 -- ---- the outcome
 
--- Number 0 with the sums where the call is accepted, else the number of its refusal and zeros. The index is 0 but with 6 and 7.
+-- Number 0 with the totals where the call is accepted, else the number of its refusal and zeros. The index is 0 but with 6 and 7.
 pub record RegionOutcome : Type 0 where
   pub number : ℕ
   pub index : ℕ
-  pub sums : CellSums
+  pub totals : Totals
 
 abbrev pub refused : ℕ → ℕ → RegionOutcome
-refused n i = record { number = n; index = i; sums = zeros }
+refused n i = record { number = n; index = i; totals = zeros }
 
--- Order: 8; 6 if any run of the list breaks it, whatever stands before it; then 7. i is the index given with 6 and 7, which document 01 leaves open.
+-- The totals are those of the ground under the cells of all runs. Order: 8; 6 if any run of the list breaks it, whatever stands before it; then 7. i is the index given with 6 and 7, which document 01 leaves open.
 unfoldable pub regionCall : List Run → ℕ → RegionOutcome
 regionCall rs i =
     cond (tooMany rs) (refused 8 0)
     (cond (anyBad rs) (refused 6 i)
     (cond (disordered rs) (refused 7 i)
-    (record { number = 0; index = 0; sums = regionSums rs })))
+    (record { number = 0; index = 0; totals = groundOf (allCells rs) })))
 
 -- ---- the answer
 
 -- The answer in document 01's terms.
 abbrev pub reading : RegionAnswer → RegionOutcome
-reading (Sums s) = record { number = 0; index = 0; sums = s }
+reading (Accepted t) = record { number = 0; index = 0; totals = t }
 reading (BadRun i) = refused 6 i
 reading (OutOfOrder i) = refused 7 i
 reading TooManyRuns = refused 8 0

@@ -1,10 +1,16 @@
-// Document 01, "Cells": the sums of a region over the runs that a caller lends. Time goes by the number of runs, not of cells.
+// Document 01, "Cells", and document 02, CR 2: the totals of the ground under a region, over the runs that a caller lends. Time goes by the number of runs, not of cells.
 ghost use mathlib.Core.Path.{_≡_};
 ghost use mathlib.Core.Bool.{not};
 ghost use Prim.Native.Nat.{_^_};
-ghost use Rattle.cells.specs.CellSums.{plus, sumsOver, cellsOf};
+ghost use Rattle.cell_ground.specs.CellSums.{plusSums, sumsOver};
+ghost use Rattle.cell_ground.specs.Ground.{groundTotals};
+ghost use Rattle.cell_ground.specs.private.SumBounds.{SumsWithin};
+ghost use Rattle.cells.specs.RunCells.{cellsOf};
 ghost use Rattle.cells.specs.RegionCall.{badRun, liesAfter, reading, Answers};
-ghost use Rattle.cells.specs.private.Scan.{noRuns, answerWith, addRun, InGrid, SumsWithin, HasRoom};
+ghost use Rattle.cells.specs.private.Scan.{held, sumsOf, noRuns, foundWith, addRun, answerOf, RunInGrid, SumsSmall, HasRoom};
+use column_sums::index_sum;
+use column_sums::square_sum;
+use outline::Totals;
 
 // As many cells of a row as `length`, from the column `first` on. Laid out as in C, whose callers lend lists of them.
 #[repr(C)]
@@ -14,9 +20,9 @@ pub struct Run {
     pub length: u32,
 }
 
-// The sums of a region, or why it has none: refusal 6 or 7 with the index of a run that breaks it, or 8.
+// The totals of a region, or why it has none: refusal 6 or 7 with the index of a run that breaks it, or 8.
 pub enum RegionAnswer {
-    Sums(centroid::CellSums),
+    Accepted(Totals),
     BadRun(usize),
     OutOfOrder(usize),
     TooManyRuns,
@@ -28,7 +34,7 @@ impl RegionAnswer {
         ensures { λ r. ⌜ r ≡ reading self .number ⌝ }
     {
         match self {
-            RegionAnswer::Sums(_) => 0,
+            RegionAnswer::Accepted(_) => 0,
             RegionAnswer::BadRun(_) => 6,
             RegionAnswer::OutOfOrder(_) => 7,
             RegionAnswer::TooManyRuns => 8,
@@ -36,11 +42,28 @@ impl RegionAnswer {
     }
 }
 
-// What the runs read so far give: their number, the last of them, and the answer if there are no more.
+// The sums over cells: how many they are, then the sums of x, y, x², xy and y². No caller sees them.
+struct CellSums {
+    count: i64,
+    x: i64,
+    y: i64,
+    xx: i64,
+    xy: i64,
+    yy: i64,
+}
+
+// What the runs read so far have come to: the sums over their cells, or the index of a run that breaks 6 or 7.
+enum Found {
+    Sums(CellSums),
+    BadRun(usize),
+    OutOfOrder(usize),
+}
+
+// The runs read so far: their number, the last of them, and what they have come to.
 struct Scan {
     count: usize,
     last: Run,
-    answer: RegionAnswer,
+    found: Found,
 }
 
 // Refusal 6. The sum of two 32-bit numbers cannot wrap at 64 bits.
@@ -70,17 +93,17 @@ fn out_of_order(earlier: Run, run: Run) -> bool
 }
 
 // The sums of one run: those of x and x² are differences of the sums below its ends, which are at most 1,024.
-fn run_sums(run: Run) -> centroid::CellSums
-    requires { ⌜ InGrid run ⌝ }
-    ensures { λ r. ⌜ r ≡ sumsOver (cellsOf run) ⌝ }
+fn run_sums(run: Run) -> CellSums
+    requires { ⌜ RunInGrid run ⌝ }
+    ensures { λ r. ⌜ r ≡ held (sumsOver (cellsOf run)) ⌝ }
 {
     let first = run.first as u16;
     let end = (run.first + run.length) as u16;
     let n = run.length as i64;
     let y = run.row as i64;
-    let x = column_sums::index_sum(end) - column_sums::index_sum(first);
-    let xx = column_sums::square_sum(end) - column_sums::square_sum(first);
-    centroid::CellSums {
+    let x = index_sum(end) - index_sum(first);
+    let xx = square_sum(end) - square_sum(first);
+    CellSums {
         count: n,
         x,
         y: n * y,
@@ -91,18 +114,39 @@ fn run_sums(run: Run) -> centroid::CellSums
 }
 
 // The bounds are those of 4,096 runs and of one run.
-fn add_sums(s: centroid::CellSums, t: centroid::CellSums) -> centroid::CellSums
-    requires { ⌜ SumsWithin (2 ^ 42) s ⌝ }
-    requires { ⌜ SumsWithin (2 ^ 30) t ⌝ }
-    ensures { λ r. ⌜ r ≡ plus s t ⌝ }
+fn add_sums(s: CellSums, t: CellSums) -> CellSums
+    requires { ⌜ SumsWithin (2 ^ 22) (sumsOf s) ⌝ }
+    requires { ⌜ SumsWithin (2 ^ 10) (sumsOf t) ⌝ }
+    ensures { λ r. ⌜ r ≡ held (plusSums (sumsOf s) (sumsOf t)) ⌝ }
 {
-    centroid::CellSums {
+    CellSums {
         count: s.count + t.count,
         x: s.x + t.x,
         y: s.y + t.y,
         xx: s.xx + t.xx,
         xy: s.xy + t.xy,
         yy: s.yy + t.yy,
+    }
+}
+
+// Document 02, CR 2: the totals of the ground under cells, by the sums over them.
+fn ground_totals(s: CellSums) -> Totals
+    requires { ⌜ SumsWithin (2 ^ 22) (sumsOf s) ⌝ }
+    ensures { λ r. ⌜ r ≡ groundTotals (sumsOf s) ⌝ }
+{
+    let n = s.count;
+    let x = s.x;
+    let y = s.y;
+    let xx = s.xx;
+    let xy = s.xy;
+    let yy = s.yy;
+    Totals {
+        a2: 2 * n,
+        x6: 6 * x + 3 * n,
+        y6: 6 * y + 3 * n,
+        xx12: 12 * xx + 12 * x + 4 * n,
+        xy24: 24 * xy + 12 * x + 12 * y + 6 * n,
+        yy12: 12 * yy + 12 * y + 4 * n,
     }
 }
 
@@ -115,39 +159,46 @@ fn no_runs() -> Scan
         first: 0,
         length: 0,
     };
+    let none = CellSums {
+        count: 0,
+        x: 0,
+        y: 0,
+        xx: 0,
+        xy: 0,
+        yy: 0,
+    };
     Scan {
         count: 0,
         last,
-        answer: RegionAnswer::Sums(centroid::ZERO_SUMS),
+        found: Found::Sums(none),
     }
 }
 
-// The answer with one run more.
-fn next_answer(scan: Scan, run: Run) -> RegionAnswer
+// With one run more.
+fn next_found(scan: Scan, run: Run) -> Found
     requires { ⌜ HasRoom scan ⌝ }
-    ensures { λ r. ⌜ r ≡ answerWith (scan .answer) (scan .count) (scan .last) run ⌝ }
+    ensures { λ r. ⌜ r ≡ foundWith (scan .found) (scan .count) (scan .last) run ⌝ }
 {
-    let answer = scan.answer;
+    let found = scan.found;
     let last = scan.last;
-    match answer {
-        RegionAnswer::Sums(sums) => {
+    match found {
+        Found::Sums(sums) => {
             if bad_run(run) {
-                return RegionAnswer::BadRun(scan.count);
+                return Found::BadRun(scan.count);
             }
             if out_of_order(last, run) {
-                return RegionAnswer::OutOfOrder(scan.count);
+                return Found::OutOfOrder(scan.count);
             }
             let more = run_sums(run);
-            RegionAnswer::Sums(add_sums(sums, more))
+            Found::Sums(add_sums(sums, more))
         }
-        RegionAnswer::OutOfOrder(index) => {
+        Found::OutOfOrder(index) => {
             if bad_run(run) {
-                return RegionAnswer::BadRun(scan.count);
+                return Found::BadRun(scan.count);
             }
-            RegionAnswer::OutOfOrder(index)
+            Found::OutOfOrder(index)
         }
-        RegionAnswer::BadRun(index) => RegionAnswer::BadRun(index),
-        RegionAnswer::TooManyRuns => RegionAnswer::TooManyRuns,
+        Found::BadRun(index) => Found::BadRun(index),
     }
 }
 
@@ -155,16 +206,29 @@ fn add_run(scan: Scan, run: Run) -> Scan
     requires { ⌜ HasRoom scan ⌝ }
     ensures { λ r. ⌜ r ≡ addRun scan run ⌝ }
 {
-    let answer = next_answer(scan, run);
+    let found = next_found(scan, run);
     Scan {
         count: scan.count + 1,
         last: run,
-        answer,
+        found,
     }
 }
 
-// The six sums of the region that the runs make up, or why it has none.
-pub fn region_sums(runs: &[Run]) -> RegionAnswer
+// The answer, once all runs are read.
+fn answer_of(scan: Scan) -> RegionAnswer
+    requires { ⌜ SumsSmall (scan .found) ⌝ }
+    ensures { λ r. ⌜ r ≡ answerOf (scan .found) ⌝ }
+{
+    let found = scan.found;
+    match found {
+        Found::Sums(sums) => RegionAnswer::Accepted(ground_totals(sums)),
+        Found::BadRun(index) => RegionAnswer::BadRun(index),
+        Found::OutOfOrder(index) => RegionAnswer::OutOfOrder(index),
+    }
+}
+
+// The six totals of the ground under the region that the runs make up, or why it has none.
+pub fn region_totals(runs: &[Run]) -> RegionAnswer
     ensures { λ r. ⌜ Answers (now (runs .entry)) r ⌝ }
 {
     if 4096 < runs.len() {
@@ -176,5 +240,5 @@ pub fn region_sums(runs: &[Run]) -> RegionAnswer
         scan = add_run(scan, runs[i]);
         i = i + 1;
     }
-    scan.answer
+    answer_of(scan)
 }

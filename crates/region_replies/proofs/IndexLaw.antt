@@ -9,7 +9,7 @@ use lib.Dec.{ltb}
 use lib.ListN.{length}
 use Rattle.cells.specs.declared.Run.{Run}
 use Rattle.cells.specs.declared.RegionAnswer.{RegionAnswer}
-use Rattle.cells.specs.declared.RegionAnswer.the-variants.{Sums, BadRun, OutOfOrder, TooManyRuns}
+use Rattle.cells.specs.declared.RegionAnswer.the-variants.{Accepted, BadRun, OutOfOrder, TooManyRuns}
 use Rattle.cells.specs.RegionCall.{RegionOutcome, refused, tooMany, regionCall, reading, Answers}
 use Rattle.region_replies.specs.RegionReply.{indexCapped}
 
@@ -22,11 +22,11 @@ few rs number i j l e = by-test (ltb 4096 (length rs)) _ refl (ap (λ (o : Regio
     by-test false other m n = ltb-false 4096 (length rs) m
 
 index-within : (rs : List Run) (a : RegionAnswer) → Answers rs a → reading a .index ≤ 4096
-index-within rs (Sums s) h = omega arith
+index-within rs (Accepted t) h = omega arith
 index-within rs (BadRun i) h = omega (arith, h .six refl .present, few rs 6 i i (omega arith) (h .outcome))
 index-within rs (OutOfOrder i) h = omega (arith, h .seven refl .present, few rs 7 i i (omega arith) (h .outcome))
 index-within rs TooManyRuns h = omega arith
 
 -- So the index is told as it is.
 pub index-told : (rs : List Run) (a : RegionAnswer) → Answers rs a → indexCapped (reading a) ≡ reading a
-index-told rs a h = let l = index-within rs a h in ap (λ i. record { number = reading a .number; index = i; sums = reading a .sums }) (omega (arith, l))
+index-told rs a h = let l = index-within rs a h in ap (λ i. record { number = reading a .number; index = i; totals = reading a .totals }) (omega (arith, l))

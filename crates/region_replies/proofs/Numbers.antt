@@ -7,14 +7,14 @@ use lib.IntN.{ℤ}
 use lib.ListN.{length}
 use Rattle.cells.specs.declared.Run.{Run}
 use Rattle.cells.specs.declared.RegionAnswer.{RegionAnswer}
-use Rattle.cells.specs.declared.RegionAnswer.the-variants.{Sums, BadRun, OutOfOrder, TooManyRuns}
+use Rattle.cells.specs.declared.RegionAnswer.the-variants.{Accepted, BadRun, OutOfOrder, TooManyRuns}
 use Rattle.cells.specs.RegionCall.{reading}
 use Rattle.replies.specs.Reply.{Reply, shortBuffer}
 use Rattle.replies.proofs.ShortBuffer.{only-short}
 use Rattle.region_replies.specs.RegionReply.{RegionReplies}
 
 region-number : (a : RegionAnswer) → reading a .number < shortBuffer
-region-number (Sums s) = omega arith
+region-number (Accepted t) = omega arith
 region-number (BadRun i) = omega arith
 region-number (OutOfOrder i) = omega arith
 region-number TooManyRuns = omega arith

@@ -8,11 +8,11 @@ use Rattle.cells.specs.declared.RegionAnswer.{RegionAnswer}
 use Rattle.cells.specs.RegionCall.{RegionOutcome, reading, Answers}
 use Rattle.replies.specs.Reply.{Reply, reply}
 
--- The number, the six sums in document 01's order, and the index: 0 but with 6 and 7.
+-- The number, the six totals in the outline's order, and the index: 0 but with 6 and 7.
 abbrev pub regionReply : RegionOutcome → List ℤ → Reply
 regionReply o buffer =
-    let s = o .sums in
-    reply (o .number) (s .count ∷ s .x ∷ s .y ∷ s .xx ∷ s .xy ∷ s .yy ∷ pos (o .index) ∷ []) buffer
+    let t = o .totals in
+    reply (o .number) (t .a2 ∷ t .x6 ∷ t .y6 ∷ t .xx12 ∷ t .xy24 ∷ t .yy12 ∷ pos (o .index) ∷ []) buffer
 
 -- The reply tells an answer that the call on these runs may give: document 01 leaves open which of the runs that break 6 or 7 the index is of.
 pub record RegionReplies (rs : List Run) (before : List ℤ) (r : Reply) : Type 0 where
@@ -23,4 +23,4 @@ pub record RegionReplies (rs : List Run) (before : List ℤ) (r : Reply) : Type 
 -- The outcome with no index above 4,096: an entry of the buffer holds it, whatever index the answer has. No answer of the call has a larger one
 -- (proofs/IndexLaw).
 abbrev pub indexCapped : RegionOutcome → RegionOutcome
-indexCapped o = record { number = o .number; index = min (o .index) 4096; sums = o .sums }
+indexCapped o = record { number = o .number; index = min (o .index) 4096; totals = o .totals }

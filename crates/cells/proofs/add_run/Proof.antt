@@ -3,14 +3,14 @@ use borrow.Author.Needs.{needs}
 use Rattle.cells.proofs.add_run.Statement.{statement}
 use Rattle.cells.proofs.add_run.Tie as tie
 
-next-answer-requires : tie.Need-next-answer-requires
-next-answer-requires c κs = search needs
+next-found-requires : tie.Need-next-found-requires
+next-found-requires c κs = search needs
 
 add-t4 : tie.Need-add-t4
 add-t4 c = search needs
 
 returns : tie.Need-returns
-returns c = rw (c .before .next-answer .ensures)
+returns c = rw (c .before .next-found .ensures)
 
 pub add-run-spec : {M : Type 1} → statement M
-add-run-spec = tie.close (tie.spec next-answer-requires add-t4 returns)
+add-run-spec = tie.close (tie.spec next-found-requires add-t4 returns)

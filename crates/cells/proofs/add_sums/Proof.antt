@@ -2,6 +2,7 @@
 use mathlib.Core.Path.{_≡_}
 use mathlib.Core.List.{List, [], _∷_}
 use Prim.Native.Nat.{_≤_, _^_}
+use native.Mathlib.Omega.{arith}
 use lib.IntN.{ℤ, natAbs, _+ℤ_}
 use mir.Syntax.{w64}
 use mir.Val.{SFits, toZ, ofZ}
@@ -44,15 +45,15 @@ returns c =
     let s = of-yy c in
     let a = s .args in
     let (p, q) = s .pre in
-    λ i. record { count = sum-is (a .s .count) (a .t .count) (p .count) (q .count) i; x = sum-is (a .s .x) (a .t .x) (p .x) (q .x) i; y = sum-is (a .s .y) (a .t .y) (p .y) (q .y) i; xx = sum-is (a .s .xx) (a .t .xx) (p .xx) (q .xx) i; xy = sum-is (a .s .xy) (a .t .xy) (p .xy) (q .xy) i; yy = sum-is (a .s .yy) (a .t .yy) (p .yy) (q .yy) i }
+    λ i. record { count = sum-is (a .s .count) (a .t .count) (omega (arith, p .count)) (omega (arith, q .count)) i; x = sum-is (a .s .x) (a .t .x) (omega (arith, p .x)) (omega (arith, q .x)) i; y = sum-is (a .s .y) (a .t .y) (omega (arith, p .y)) (omega (arith, q .y)) i; xx = sum-is (a .s .xx) (a .t .xx) (p .xx) (q .xx) i; xy = sum-is (a .s .xy) (a .t .xy) (p .xy) (q .xy) i; yy = sum-is (a .s .yy) (a .t .yy) (p .yy) (q .yy) i }
 
 pub add-sums-spec : {M : Type 1} → statement M
 add-sums-spec =
     tie.close
     (tie.spec
-    (λ c. let s = of-count c in sum-fits (s .args .s .count) (s .args .t .count) (s .pre .0 .count) (s .pre .1 .count))
-    (λ c. let s = of-x c in sum-fits (s .args .s .x) (s .args .t .x) (s .pre .0 .x) (s .pre .1 .x))
-    (λ c. let s = of-y c in sum-fits (s .args .s .y) (s .args .t .y) (s .pre .0 .y) (s .pre .1 .y))
+    (λ c. let s = of-count c in sum-fits (s .args .s .count) (s .args .t .count) (omega (arith, s .pre .0 .count)) (omega (arith, s .pre .1 .count)))
+    (λ c. let s = of-x c in sum-fits (s .args .s .x) (s .args .t .x) (omega (arith, s .pre .0 .x)) (omega (arith, s .pre .1 .x)))
+    (λ c. let s = of-y c in sum-fits (s .args .s .y) (s .args .t .y) (omega (arith, s .pre .0 .y)) (omega (arith, s .pre .1 .y)))
     (λ c. let s = of-xx c in sum-fits (s .args .s .xx) (s .args .t .xx) (s .pre .0 .xx) (s .pre .1 .xx))
     (λ c. let s = of-xy c in sum-fits (s .args .s .xy) (s .args .t .xy) (s .pre .0 .xy) (s .pre .1 .xy))
     (λ c. let s = of-yy c in sum-fits (s .args .s .yy) (s .args .t .yy) (s .pre .0 .yy) (s .pre .1 .yy))

@@ -1,18 +1,20 @@
 -- `cells::run_sums` meets its contract: every step fits, and what it computes is the run's sums in closed form.
-use mathlib.Core.Path.{_≡_, sym, _∙_}
+use mathlib.Core.Path.{_≡_, sym, _∙_, ap}
 use mathlib.Core.List.{List, [], _∷_}
 use Prim.Native.Nat.{ℕ, _+_, _≤_, _^_}
 use native.Mathlib.Omega.{arith}
 use lib.IntN.{ℤ, pos, natAbs, _-ℤ_, _*ℤ_}
 use mir.Syntax.{w64}
-use mir.Val.{SFits, toZ, ofZ}
+use mir.Val.{SFits, toZ}
 use borrow.Author.Needs.{needs}
 use Rattle.integers.proofs.SignedCode.{code, casts}
 use Rattle.integers.proofs.SizedNumbers.{i64, Sized, sized, fits, is-plain}
-use Rattle.centroid.specs.declared.CellSums.{CellSums}
+use Rattle.cell_ground.specs.Ground.{rowSums}
 use Rattle.cells.specs.declared.Run.{Run}
-use Rattle.cells.specs.CellSums.{cellsOf}
-use Rattle.cells.proofs.ClosedSums.{closed, run-closed}
+use Rattle.cells.specs.declared.CellSums as Code
+use Rattle.cells.specs.private.Scan.{held}
+use Rattle.cells.specs.RunCells.{cellsOf}
+use Rattle.cells.proofs.ClosedSums.{run-closed}
 use Rattle.column_sums.proofs.SumBounds.{index-sized, square-sized}
 use Rattle.cells.proofs.run_sums.Statement.{statement}
 use Rattle.cells.proofs.run_sums.Tie as tie
@@ -61,8 +63,8 @@ module _ (v : Numbers) where
   abbrev yy : ℤ
   yy = i64 (ny *ℤ y)
 
-  abbrev inClosedForm : CellSums
-  inClosedForm = closed (pos (v .n)) (pos (v .y)) (v .a) (v .e) (v .s) (v .f)
+  abbrev inClosedForm : Code.CellSums
+  inClosedForm = held (rowSums (pos (v .y)) (pos (v .n)) (v .e -ℤ v .a) (v .f -ℤ v .s))
 
   ny-fits : SFits w64 (n *ℤ y)
   ny-fits = fits operands (search (casts, code) depth 40) tt
@@ -91,7 +93,7 @@ module _ (v : Numbers) where
   yy-is : yy ≡ inClosedForm .yy
   yy-is = is-plain operands (search (casts, code) depth 40) tt
 
-  computed : _≡_ {A = CellSums} (record { count = n; x = x; y = ny; xx = xx; xy = xy; yy = yy }) inClosedForm
+  computed : _≡_ {A = Code.CellSums} (record { count = n; x = x; y = ny; xx = xx; xy = xy; yy = yy }) inClosedForm
   computed = λ i. record { count = n-is i; x = x-is i; y = ny-is i; xx = xx-is i; xy = xy-is i; yy = yy-is i }
 
 -- ---- the needs
@@ -190,8 +192,8 @@ unfolding cellsOf
 returns c =
     let r = run (start (mid c)) in
     computed (numbers c)
-    ∙ (λ i. closed (pos (r .length)) (pos (r .row)) (mid c .index-sum2 .ensures i) (mid c .before .index-sum .ensures i) (c .square-sum2 .ensures i) (c .before .square-sum .ensures i))
-    ∙ sym (run-closed (r .row) (r .first) (r .length))
+    ∙ (λ i. held (rowSums (pos (r .row)) (pos (r .length)) (mid c .before .index-sum .ensures i -ℤ mid c .index-sum2 .ensures i) (c .before .square-sum .ensures i -ℤ c .square-sum2 .ensures i)))
+    ∙ sym (ap held (run-closed (r .row) (r .first) (r .length)))
 
 pub run-sums-spec : {M : Type 1} → statement M
 run-sums-spec = tie.close (tie.spec cast-first add-end cast-end cast-n cast-y index-sum-requires index-sum-requires-2 sub-x square-sum-requires square-sum-requires-2 sub-xx mul-t9 mul-t10 mul-t11 mul-t12 returns)

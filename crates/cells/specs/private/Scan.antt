@@ -1,46 +1,62 @@
--- The accumulator of the call on a list of runs: what one run more makes of it, and the bounds within which its sums are computed.
+-- The accumulator of the call on a list of runs: what one run more makes of it, the answer at the end, and the bounds within which its sums are computed.
 use Prim.Native.Nat.{ℕ, _+_, _<_, _≤_, _^_}
 use mathlib.Core.Bool.{not, cond}
-use lib.IntN.{natAbs}
-use Rattle.centroid.specs.declared.CellSums.{CellSums}
+use Rattle.cell_ground.specs.CellSums.{CellSums, noSums, plusSums, sumsOver}
+use Rattle.cell_ground.specs.Ground.{groundTotals}
+use Rattle.cell_ground.specs.private.SumBounds.{SumsWithin}
+use Rattle.cells.specs.declared.CellSums as Code
 use Rattle.cells.specs.declared.Run.{Run}
+use Rattle.cells.specs.declared.Found.{Found}
+use Rattle.cells.specs.declared.Found.the-variants as Found
 use Rattle.cells.specs.declared.Scan.{Scan}
 use Rattle.cells.specs.declared.RegionAnswer.{RegionAnswer}
-use Rattle.cells.specs.declared.RegionAnswer.the-variants.{Sums, BadRun, OutOfOrder, TooManyRuns}
-use Rattle.cells.specs.CellSums.{zeros, plus, sumsOver, cellsOf}
-use Rattle.cells.specs.RegionCall.{emptyRun, badRun, liesAfter, reading}
+use Rattle.cells.specs.declared.RegionAnswer.the-variants.{Accepted, BadRun, OutOfOrder}
+use Rattle.cells.specs.RunCells.{cellsOf}
+use Rattle.cells.specs.RegionCall.{emptyRun, badRun, liesAfter}
+
+-- ---- the sums, as the code holds them and as the definitions have them
+
+abbrev pub held : CellSums → Code.CellSums
+held s = record { count = s .count; x = s .x; y = s .y; xx = s .xx; xy = s .xy; yy = s .yy }
+
+abbrev pub sumsOf : Code.CellSums → CellSums
+sumsOf s = record { count = s .count; x = s .x; y = s .y; xx = s .xx; xy = s .xy; yy = s .yy }
+
+-- ---- the scan
 
 -- Before the first run. Every run lies after the empty one at row 0, column 0.
 abbrev pub noRuns : Scan
-noRuns = record { count = 0; last = emptyRun; answer = Sums zeros }
+noRuns = record { count = 0; last = emptyRun; found = Found.Sums (held noSums) }
 
--- The answer with one run more, which has the index i and follows p: the first run that breaks 6 decides, else the first that breaks 7.
-unfoldable pub answerWith : RegionAnswer → ℕ → Run → Run → RegionAnswer
-answerWith (Sums s) i p r = cond (badRun r) (BadRun i) (cond (not (liesAfter p r)) (OutOfOrder i) (Sums (plus s (sumsOver (cellsOf r)))))
-answerWith (OutOfOrder k) i p r = cond (badRun r) (BadRun i) (OutOfOrder k)
-answerWith (BadRun k) i p r = BadRun k
-answerWith TooManyRuns i p r = TooManyRuns
+-- With one run more, which has the index i and follows p: the first run that breaks 6 decides, else the first that breaks 7.
+unfoldable pub foundWith : Found → ℕ → Run → Run → Found
+foundWith (Found.Sums s) i p r = cond (badRun r) (Found.BadRun i) (cond (not (liesAfter p r)) (Found.OutOfOrder i) (Found.Sums (held (plusSums (sumsOf s) (sumsOver (cellsOf r))))))
+foundWith (Found.OutOfOrder k) i p r = cond (badRun r) (Found.BadRun i) (Found.OutOfOrder k)
+foundWith (Found.BadRun k) i p r = Found.BadRun k
 
 abbrev pub addRun : Scan → Run → Scan
-addRun s r = record { count = s .count + 1; last = r; answer = answerWith (s .answer) (s .count) (s .last) r }
+addRun s r = record { count = s .count + 1; last = r; found = foundWith (s .found) (s .count) (s .last) r }
+
+-- The answer that all runs have come to.
+abbrev pub answerOf : Found → RegionAnswer
+answerOf (Found.Sums s) = Accepted (groundTotals (sumsOf s))
+answerOf (Found.OutOfOrder k) = OutOfOrder k
+answerOf (Found.BadRun k) = BadRun k
 
 -- ---- bounds
 
 -- The bounds of a run that 6 does not refuse.
-pub record InGrid (r : Run) : Type 0 where
+pub record RunInGrid (r : Run) : Type 0 where
   pub row : r .row ≤ 1023
   pub end : r .first + r .length ≤ 1024
 
--- Each of the six sums is at most n in size.
-pub record SumsWithin (n : ℕ) (s : CellSums) : Type 0 where
-  pub count : natAbs (s .count) ≤ n
-  pub x : natAbs (s .x) ≤ n
-  pub y : natAbs (s .y) ≤ n
-  pub xx : natAbs (s .xx) ≤ n
-  pub xy : natAbs (s .xy) ≤ n
-  pub yy : natAbs (s .yy) ≤ n
+-- The sums over the cells of 4,096 runs at most, each of 1,024 cells at most.
+abbrev pub SumsSmall : Found → Type 0
+SumsSmall (Found.Sums s) = SumsWithin (2 ^ 22) (sumsOf s)
+SumsSmall (Found.OutOfOrder k) = Unit {0}
+SumsSmall (Found.BadRun k) = Unit {0}
 
--- One run more can be taken. Each sum of one run is at most 1,024 × 1,023 × 1,023, which is below 2^30; 2^42 is 4,096 times that.
+-- One run more can be taken.
 pub record HasRoom (s : Scan) : Type 0 where
   pub runs : s .count < 4096
-  pub sums : SumsWithin (2 ^ 42) (reading (s .answer) .sums)
+  pub sums : SumsSmall (s .found)

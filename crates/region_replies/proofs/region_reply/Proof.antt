@@ -1,4 +1,4 @@
--- `region_replies::region_reply` meets its contract: the number, the sums and the index told are those of the answer.
+-- `region_replies::region_reply` meets its contract: the number, the totals and the index told are those of the answer.
 use mathlib.Core.Path.{_≡_, ap, _∙_}
 use mathlib.Core.List.{List}
 use Prim.Native.Nat.{min}
@@ -12,8 +12,8 @@ use Rattle.region_replies.specs.RegionReply.{regionReply}
 use Rattle.region_replies.proofs.region_reply.Statement.{statement}
 use Rattle.region_replies.proofs.region_reply.Tie as tie
 
-sums-of-region-requires : tie.Need-sums-of-region-requires
-sums-of-region-requires c κs = search needs
+totals-of-region-requires : tie.Need-totals-of-region-requires
+totals-of-region-requires c κs = search needs
 
 index-of-region-requires : tie.Need-index-of-region-requires
 index-of-region-requires c κs = search needs
@@ -47,14 +47,14 @@ module _ (c : tie.After-out) where
   abbrev capped : tie.After-lesser
   capped = fields .before
 
-  abbrev sums : tie.After-sums-of-region
-  sums = capped .before .before
+  abbrev totals : tie.After-totals-of-region
+  totals = capped .before .before
 
   abbrev buffer : List ℤ
-  buffer = sums .before .args .out .now
+  buffer = totals .before .args .out .now
 
   abbrev told : RegionOutcome
-  told = record { number = number .number .result; index = capped .lesser .result; sums = sums .sums-of-region .result }
+  told = record { number = number .number .result; index = capped .lesser .result; totals = totals .totals-of-region .result }
 
   index-held : toZ w64 (told .index) ≡ pos (told .index)
   index-held = toZ-ofZ w64 (pos (told .index)) (cast-t7 capped)
@@ -65,13 +65,13 @@ module _ (c : tie.After-out) where
 returns : tie.Need-returns
 returns c =
     let index-is = capped c .lesser .ensures ∙ ap (λ i. min i 4096) (capped c .before .index-of-region .ensures) in
-    held c ∙ (λ i. regionReply (record { number = number c .number .ensures i; index = index-is i; sums = sums c .sums-of-region .ensures i }) (buffer c))
+    held c ∙ (λ i. regionReply (record { number = number c .number .ensures i; index = index-is i; totals = totals c .totals-of-region .ensures i }) (buffer c))
 
 pub region-reply-spec : {M : Type 1} → statement M
 region-reply-spec =
     tie.close
     (tie.spec
-    sums-of-region-requires
+    totals-of-region-requires
     index-of-region-requires
     lesser-requires
     cast-t7

@@ -1,4 +1,4 @@
--- What the walk of `cells::region_sums` cites: the machine values of runs and scans, the contracts of `no_runs` and `add_run`, and the state of the loop.
+-- What the walk of `cells::region_totals` cites: the machine values of runs and scans, the contracts of `no_runs`, `add_run` and `answer_of`, and the state of the loop.
 use mathlib.Core.Path.{_≡_}
 use Prim.Native.Nat.{ℕ, _+_, _-_, _<_, _≤_}
 use native.Mathlib.Nat.{le-of-lt}
@@ -31,11 +31,12 @@ use denote.Triple.Clauses.{ensured, lasts}
 use denote.Triple.Spec.{tripleOf}
 use denote.Triple.Walked.{says}
 use Rattle.cells.specs.RegionCall.{emptyRun, Answers}
-use Rattle.cells.specs.private.Scan.{noRuns, addRun, HasRoom}
+use Rattle.cells.specs.private.Scan.{noRuns, addRun, answerOf, SumsSmall, HasRoom}
 use Rattle.cells.specs.declared.Run.{Run}
 use Rattle.cells.specs.declared.Scan.{Scan}
+use Rattle.cells.specs.declared.RegionAnswer.{RegionAnswer}
 use Rattle.cells.specs.declared.RegionAnswer.the-variants.{TooManyRuns}
-use Rattle.cells.proofs.ScanLaws.{Stands, one-more, room, answered}
+use Rattle.cells.proofs.ScanLaws.{Stands, one-more, room, sums-small, answered}
 use Rattle.cells.proofs.Run as T
 use Rattle.cells.proofs.Run.Laws as T′
 use Rattle.cells.proofs.Scan as S
@@ -44,6 +45,7 @@ use Rattle.cells.proofs.RegionAnswer as R
 use Rattle.cells.proofs.RegionAnswer.Laws as R′
 use Rattle.cells.proofs.no_runs as no-runs
 use Rattle.cells.proofs.add_run as add-run
+use Rattle.cells.proofs.answer_of as answer-of
 
 -- the machine values of a run and of a scan
 abbrev pub vals : Run → List Val
@@ -55,10 +57,6 @@ svals = LL.vals S.the-type S′.the-laws
 -- `TooManyRuns` has no field, so nothing is owed
 pub made : Is R.the-row TooManyRuns (EL.vals R.the-type R′.the-laws TooManyRuns)
 made = EL.owes R.the-type R′.the-laws TooManyRuns tt
-
--- a scan's answer
-pub answer-is : (s : Scan) → Is S.the-row s (svals s) → Is R.the-row (s .answer) (EL.vals R.the-type R′.the-laws (s .answer))
-answer-is s p = LL.owed S.the-type S′.the-laws s _ p .1 .1 .0
 
 abbrev pub word : Ty
 word = tyInt w64
@@ -78,11 +76,17 @@ module _ {M : Type 1} (𝓤 : URA M) (H : Heap 𝓤) (A : Atoms 𝓤) (W : Given
   abbrev pub AddRun : Contract 𝓤
   AddRun = tripleOf 𝓤 H A add-run.signature (add-run.spec 𝓤 H A mem run)
 
+  abbrev pub AnswerOf : Contract 𝓤
+  AnswerOf = tripleOf 𝓤 H A answer-of.signature (answer-of.spec 𝓤 H A mem run)
+
   abbrev pub to-none : NoRuns .Ghost
   to-none = ((tt, tt, tt, tt, tt), tt)
 
   abbrev pub to-add : Scan → Run → AddRun .Ghost
   to-add s r = ((tt, tt, tt, (s, (r, tt)), (svals s, (vals r, tt))), tt)
+
+  abbrev pub to-answer : Scan → AnswerOf .Ghost
+  to-answer s = ((tt, tt, tt, (s, tt), (svals s, tt)), tt)
 
   pub goes-none : ent 𝓤 (emp 𝓤) (NoRuns .pre to-none)
   goes-none = qed W [] ∵ nothing ! $ nothing ! $ join ! $ frame ! $ done !
@@ -90,12 +94,18 @@ module _ {M : Type 1} (𝓤 : URA M) (H : Heap 𝓤) (A : Atoms 𝓤) (W : Given
   pub goes-add : (s : Scan) (r : Run) → Is S.the-row s (svals s) → Is T.the-row r (vals r) → HasRoom s → ent 𝓤 (emp 𝓤) (AddRun .pre (to-add s r))
   goes-add s r ps pr rm = qed W [] ∵ says ! rm $ nothing ! $ owned ! T.the-row (Is T.the-row) (LL.makes T.the-type T′.the-plain 𝓤 H A) r _ pr $ fjoin ! $ owned ! S.the-row (Is S.the-row) (LL.makes S.the-type S′.the-plain 𝓤 H A) s _ ps $ fjoin ! $ nothing ! $ join ! $ done !
 
+  pub goes-answer : (s : Scan) → Is S.the-row s (svals s) → SumsSmall (s .found) → ent 𝓤 (emp 𝓤) (AnswerOf .pre (to-answer s))
+  goes-answer s ps small = qed W [] ∵ says ! small $ nothing ! $ owned ! S.the-row (Is S.the-row) (LL.makes S.the-type S′.the-plain 𝓤 H A) s _ ps $ fjoin ! $ nothing ! $ join ! $ done !
+
   -- of each callee's `ensured`, the clause alone
   pub told-none : (s : Scan) → ent 𝓤 (ensured 𝓤 H A no-runs.ended (no-runs.clauses 𝓤 H A mem run) tt tt tt s) (fact 𝓤 (s ≡ noRuns))
   told-none s = exE 𝓤 _ (λ ws. snd∗ 𝓤 (sem 𝓤 H A (lasts no-runs.ended tt tt ws)) (fact 𝓤 (s ≡ noRuns)))
 
   pub told-add : (s : Scan) (r : Run) (s′ : Scan) → ent 𝓤 (ensured 𝓤 H A add-run.ended (add-run.clauses 𝓤 H A mem run) tt (s, (r, tt)) tt s′) (fact 𝓤 (s′ ≡ addRun s r))
   told-add s r s′ = exE 𝓤 _ (λ ws. snd∗ 𝓤 (sem 𝓤 H A (lasts add-run.ended tt (s, (r, tt)) ws)) (fact 𝓤 (s′ ≡ addRun s r)))
+
+  pub told-answer : (s : Scan) (a : RegionAnswer) → ent 𝓤 (ensured 𝓤 H A answer-of.ended (answer-of.clauses 𝓤 H A mem run) tt (s, tt) tt a) (fact 𝓤 (a ≡ answerOf (s .found)))
+  told-answer s a = exE 𝓤 _ (λ ws. snd∗ 𝓤 (sem 𝓤 H A (lasts answer-of.ended tt (s, tt) ws)) (fact 𝓤 (a ≡ answerOf (s .found))))
 
 -- ---- where the loop stands: the index and the scan, which stands for the runs before the index
 pub record State (ys : List Run) : Type 0 where
@@ -131,5 +141,8 @@ module _ (ys : List Run) where
   has-room few s l = room (take (s .i) ys) (s .stands) (omega (arith, length-take-le (s .i) ys (le-of-lt l)))
 
   -- past the last run
-  pub at-end : length ys ≤ 4096 → (s : State ys) → length ys ≤ s .i → Answers ys (s .scan .answer)
+  pub all-small : length ys ≤ 4096 → (s : State ys) → length ys ≤ s .i → SumsSmall (s .scan .found)
+  all-small few s l = sums-small ys (rw (take-all (s .i) ys l) at (s .stands)) few
+
+  pub at-end : length ys ≤ 4096 → (s : State ys) → length ys ≤ s .i → Answers ys (answerOf (s .scan .found))
   at-end few s l = answered ys (rw (take-all (s .i) ys l) at (s .stands)) few

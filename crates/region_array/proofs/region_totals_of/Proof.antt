@@ -1,4 +1,4 @@
--- `region_sums_of` meets its contract: a walk of its MIR, by hand. The first runs of an array in a local are lent to `region_sums`, for a lifetime that the walk makes.
+-- `region_totals_of` meets its contract: a walk of its MIR, by hand. The first runs of an array in a local are lent to `region_totals`, for a lifetime that the walk makes.
 use mathlib.Core.Path.{_≡_, refl, sym, _∙_, ap}
 use Prim.Native.Nat.{ℕ, zero, suc, min}
 use native.Mathlib.Omega.{arith}
@@ -57,14 +57,14 @@ use Rattle.region_array.proofs.within_array as within-array
 use Rattle.region_array.proofs.within_array.Symbol as within-array-def
 use Rattle.region_array.proofs.within_array.Symbol.{name as #region-array·within-array}
 use Rattle.region_array.proofs.within_array.Met as within-array-thm
-use Rattle.cells.proofs.region_sums as region-sums
-use Rattle.cells.proofs.region_sums.Symbol as region-sums-def
-use Rattle.cells.proofs.region_sums.Symbol.{name as #cells·region-sums}
-use Rattle.cells.proofs.region_sums.Met as region-sums-thm
-use Rattle.region_array.proofs.region_sums_of.Key.{name as #region-array·region-sums-of}
-use Rattle.region_array.proofs.region_sums_of as region-sums-of
-use Rattle.region_array.proofs.region_sums_of.Statement as stated
-use Rattle.region_array.proofs.region_sums_of.Code as code
+use Rattle.cells.proofs.region_totals as region-totals
+use Rattle.cells.proofs.region_totals.Symbol as region-totals-def
+use Rattle.cells.proofs.region_totals.Symbol.{name as #cells·region-totals}
+use Rattle.cells.proofs.region_totals.Met as region-totals-thm
+use Rattle.region_array.proofs.region_totals_of.Key.{name as #region-array·region-totals-of}
+use Rattle.region_array.proofs.region_totals_of as region-totals-of
+use Rattle.region_array.proofs.region_totals_of.Statement as stated
+use Rattle.region_array.proofs.region_totals_of.Code as code
 
 -- the array's type, its machine values, and its MIR type
 abbrev Row : RattleType
@@ -79,13 +79,13 @@ array = tyArray T′.mir 4097
 abbrev slice : Ty
 slice = sliceTy (tyRef erased imm (pointee (T.the-row .written)))
 
-abbrev stayed : Stays (region-sums-of.ended .signature .params) (region-sums-of.ended .kept)
+abbrev stayed : Stays (region-totals-of.ended .signature .params) (region-totals-of.ended .kept)
 stayed = (stay-dropped (plain (λ _. Row)) yes, (stay-dropped (plain (λ _. usize)) yes, tt))
 
 -- the contracts that the proof cites
 module _ {M : Type 1} (𝓤 : URA M) (H : Heap 𝓤) (A : Atoms 𝓤) (mem : Memory → SProp 𝓤) (run : Routine → Fun 𝓤) where
-  abbrev Sums : Contract 𝓤
-  Sums = tripleOf 𝓤 H A region-sums.signature (region-sums.spec 𝓤 H A mem run)
+  abbrev Region : Contract 𝓤
+  Region = tripleOf 𝓤 H A region-totals.signature (region-totals.spec 𝓤 H A mem run)
 
   abbrev Count : Contract 𝓤
   Count = tripleOf 𝓤 H A within-array.signature (within-array.spec 𝓤 H A mem run)
@@ -153,7 +153,7 @@ module _ {M : Type 1} (𝓤 : URA M) (H : Heap 𝓤) (A : Atoms 𝓤) (W : Given
   given = ((xs, (k, tt)), (vals xs, (uint-vals w64 k, tt)))
 
   abbrev Post : Val → SProp 𝓤
-  Post = walkOf 𝓤 H A region-sums-of.ended stayed (region-sums-of.clauses 𝓤 H A mem run) .post ((tt, tt, tt, given .0, given .1), tt)
+  Post = walkOf 𝓤 H A region-totals-of.ended stayed (region-totals-of.clauses 𝓤 H A mem run) .post ((tt, tt, tt, given .0, given .1), tt)
 
   abbrev to-count : Count 𝓤 H A mem run .Ghost
   to-count = ((tt, tt, tt, (k, tt), (uint-vals w64 k, tt)), tt)
@@ -171,24 +171,24 @@ module _ {M : Type 1} (𝓤 : URA M) (H : Heap 𝓤) (A : Atoms 𝓤) (W : Given
   abbrev at : ℕ → List Val
   at b = sliceVal (b, 0) (length ys) ∷ []
 
-  abbrev to-sums : ℕ → ℕ → GName → Sums 𝓤 H A mem run .Ghost
-  to-sums ν b γ = (((ν ∷ [], tt), (fullShare, tt), tt, (lent b γ, tt), (at b, tt)), tt)
+  abbrev to-region : ℕ → ℕ → GName → Region 𝓤 H A mem run .Ghost
+  to-region ν b γ = (((ν ∷ [], tt), (fullShare, tt), tt, (lent b γ, tt), (at b, tt)), tt)
 
-  goes-sums : (ν b : ℕ) (γ : GName) → ent 𝓤 (sep 𝓤 (A .lft (ν ∷ []) fullShare) (sem 𝓤 H A (ShrSlice (named 0) (ν ∷ []) T.the-row .own (lent b γ) (at b)))) (Sums 𝓤 H A mem run .pre (to-sums ν b γ))
-  goes-sums ν b γ =
+  goes-region : (ν b : ℕ) (γ : GName) → ent 𝓤 (sep 𝓤 (A .lft (ν ∷ []) fullShare) (sem 𝓤 H A (ShrSlice (named 0) (ν ∷ []) T.the-row .own (lent b γ) (at b)))) (Region 𝓤 H A mem run .pre (to-region ν b γ))
+  goes-region ν b γ =
       qed W (‵ (flft (ν ∷ []) fullShare) ∷ ‵ (ShrSlice (named 0) (ν ∷ []) T.the-row .own (lent b γ) (at b)) ∷ []) ∵
       nothing ! $ move ! (2 ∷ 0 ∷ []) $ fjoin ! $ nothing ! $ move ! (2 ∷ 0 ∷ []) $ join ! $ join ! $ frame ! $ done !
 
-  told-sums : (ν b : ℕ) (γ : GName) (r : RegionAnswer) → ent 𝓤 (ensured 𝓤 H A region-sums.ended (region-sums.clauses 𝓤 H A mem run) (ν ∷ [], tt) (lent b γ, tt) tt r) (fact 𝓤 (Answers ys r))
-  told-sums ν b γ r = exE 𝓤 _ (λ ws. snd∗ 𝓤 (sem 𝓤 H A (lasts region-sums.ended (ν ∷ [], tt) (lent b γ, tt) ws)) (fact 𝓤 (Answers ys r)))
+  told-region : (ν b : ℕ) (γ : GName) (r : RegionAnswer) → ent 𝓤 (ensured 𝓤 H A region-totals.ended (region-totals.clauses 𝓤 H A mem run) (ν ∷ [], tt) (lent b γ, tt) tt r) (fact 𝓤 (Answers ys r))
+  told-region ν b γ r = exE 𝓤 _ (λ ws. snd∗ 𝓤 (sem 𝓤 H A (lasts region-totals.ended (ν ∷ [], tt) (lent b γ, tt) ws)) (fact 𝓤 (Answers ys r)))
 
   exits : (r : RegionAnswer) (v : Val) → Is R.the-row r (v ∷ []) → Answers ys r → ent 𝓤 (emp 𝓤) (Post v)
   exits r v is e =
-      qed W [] ∵ suffices ! _ (ends-at 𝓤 H A region-sums-of.ended stayed (region-sums-of.clauses 𝓤 H A mem run) W ((tt, tt, tt, given .0, given .1), tt) v r (tt, (tt, tt)) (tt, (tt, tt))) $ says ! e $
+      qed W [] ∵ suffices ! _ (ends-at 𝓤 H A region-totals-of.ended stayed (region-totals-of.clauses 𝓤 H A mem run) W ((tt, tt, tt, given .0, given .1), tt) v r (tt, (tt, tt)) (tt, (tt, tt))) $ says ! e $
       nothing ! $ frame ! $ nothing ! $ nothing ! $ fjoin ! $ nothing ! $ fjoin ! $ frame ! $ owned ! R.the-row (Is R.the-row) (EL.makes R.the-type R′.the-plain 𝓤 H A) r _ is $ done !
 
-  module _ (C : Calls 𝓤 H) (Λ : Loops 𝓤 H) (fm : FmC 𝓤 H (W .laws) C) (known-count : Triple 𝓤 (C #region-array·within-array) (Count 𝓤 H A mem run)) (known-sums : Triple 𝓤 (C #cells·region-sums) (Sums 𝓤 H A mem run)) where
-    walk : ent 𝓤 (onEntry 𝓤 H A region-sums-of.signature tt tt (given .0) (given .1)) (WpFn 𝓤 H C Λ code.function (only (vals xs) ∷ vint w64 k ∷ []) Post)
+  module _ (C : Calls 𝓤 H) (Λ : Loops 𝓤 H) (fm : FmC 𝓤 H (W .laws) C) (known-count : Triple 𝓤 (C #region-array·within-array) (Count 𝓤 H A mem run)) (known-region : Triple 𝓤 (C #cells·region-totals) (Region 𝓤 H A mem run)) where
+    walk : ent 𝓤 (onEntry 𝓤 H A region-totals-of.signature tt tt (given .0) (given .1)) (WpFn 𝓤 H C Λ code.function (only (vals xs) ∷ vint w64 k ∷ []) Post)
     walk =
         qed W (‵ ftrue ∷ ‵ (owns (Row ∷ usize ∷ []) (given .0) (given .1)) ∷ []) ∵ enter ! C Λ code.function (only (vals xs) ∷ vint w64 k ∷ []) _ $
         alloc1 ! (λ l₀. alloc1 ! (λ l₁. alloc1 ! (λ l₂. alloc1 ! (λ l₃. alloc1 ! (λ l₄. alloc1 ! (λ l₅. alloc1 ! (λ l₆. alloc0 ! $ params1 ! $
@@ -209,11 +209,11 @@ module _ {M : Type 1} (𝓤 : URA M) (H : Heap 𝓤) (A : Atoms 𝓤) (W : Given
         move ! (6 ∷ []) $ use1 W (‵ (Lent 𝓤 H A W xs len k l₃) ⊛ ‵ (Others 𝓤 H A W xs len k l₃)) (apart 𝓤 H A W xs len k l₃ is-xs) $ split ! $ lft-new ! tt (λ ν. move ! (1 ∷ []) $
         use1 W (later (some (λ (γ : GName). ‵ (ShrSlice (named 0) (ν ∷ []) T.the-row .own (lent l₃ γ) (at l₃)) ⊛ ‵ (flent (ν ∷ []) (Lent 𝓤 H A W xs len k l₃)))))
         (lends-shr-slice 𝓤 H A W T.the-row (named 0) (ν ∷ []) fullShare ys l₃ 0 room) $ await ! tt $ pick ! (λ γ. split ! $
-        move ! (2 ∷ 0 ∷ []) $ use2 W (raw (Sums 𝓤 H A mem run .pre (to-sums ν l₃ γ))) (goes-sums ν l₃ γ) $
+        move ! (2 ∷ 0 ∷ []) $ use2 W (raw (Region 𝓤 H A mem run .pre (to-region ν l₃ γ))) (goes-region ν l₃ γ) $
         -- [what the call asks; the lender's part; the other runs; _6; …; _5; …; _4; …; that _3 dies; _2; …; _1; …; room for _0; …]
-        calls-at ! fm (Sums 𝓤 H A mem run) known-sums (to-sums ν l₃ γ) (and-then ! (load ! (from ! (stop !)) (look ! 3 refl)) (no-more !)) (λ v.
-        use1 W (later (some (λ (r : RegionAnswer). ((‵ (flft (ν ∷ []) fullShare) ⊛ ‵ ftrue) ⊛ ‵ (R.the-row .own r (v ∷ []))) ⊛ raw (ensured 𝓤 H A region-sums.ended (region-sums.clauses 𝓤 H A mem run) (ν ∷ [], tt) (lent l₃ γ, tt) tt r)))) (id⊢ 𝓤 _) $ await ! tt $ pick ! (λ r.
-        split ! $ move ! (1 ∷ []) $ use1 W (raw (fact 𝓤 (Answers ys r))) (told-sums ν l₃ γ r) $ heard ! (Answers ys r) (λ h. split ! $ move ! (1 ∷ []) $
+        calls-at ! fm (Region 𝓤 H A mem run) known-region (to-region ν l₃ γ) (and-then ! (load ! (from ! (stop !)) (look ! 3 refl)) (no-more !)) (λ v.
+        use1 W (later (some (λ (r : RegionAnswer). ((‵ (flft (ν ∷ []) fullShare) ⊛ ‵ ftrue) ⊛ ‵ (R.the-row .own r (v ∷ []))) ⊛ raw (ensured 𝓤 H A region-totals.ended (region-totals.clauses 𝓤 H A mem run) (ν ∷ [], tt) (lent l₃ γ, tt) tt r)))) (id⊢ 𝓤 _) $ await ! tt $ pick ! (λ r.
+        split ! $ move ! (1 ∷ []) $ use1 W (raw (fact 𝓤 (Answers ys r))) (told-region ν l₃ γ r) $ heard ! (Answers ys r) (λ h. split ! $ move ! (1 ∷ []) $
         peeks ! R.the-row (Is R.the-row) (shows 𝓤 H A R.the-row) r (v ∷ []) (λ is. toss ! $ split ! $
         -- [ν's token; true; the lender's part; the other runs; _6; …; _5; …; _4; …; that _3 dies; _2; …; _1; …; room for _0; …]
         land ! (from ! (stop !)) (init ! 15 refl (EL.lawful R.the-type R′.the-laws 𝓤 H A W tt .typed r _ is .0)) $
@@ -223,21 +223,21 @@ module _ {M : Type 1} (𝓤 : URA M) (H : Heap 𝓤) (A : Atoms 𝓤) (W : Given
         move ! (13 ∷ 14 ∷ []) $ free1 ! $ move ! (11 ∷ 12 ∷ []) $ free1 ! $ move ! (9 ∷ 10 ∷ []) $ free1 ! $ move ! (0 ∷ 8 ∷ []) $ free1 ! $ move ! (5 ∷ 6 ∷ []) $ free1 ! $ move ! (3 ∷ 4 ∷ []) $ free1 ! $ move ! (1 ∷ 2 ∷ []) $ free1 ! $ free0 ! $
         keep ! [] $ by ! (exits r v is h))))))))))))))))))
 
-module _ {M : Type 1} (𝓤 : URA M) (H : Heap 𝓤) (A : Atoms 𝓤) (W : Given 𝓤 H A) (mem : Memory → SProp 𝓤) (run : Routine → Fun 𝓤) (𝓣 : Tables 𝓤 H) (known-count : Triple 𝓤 (𝓣 .C #region-array·within-array) (Count 𝓤 H A mem run)) (known-sums : Triple 𝓤 (𝓣 .C #cells·region-sums) (Sums 𝓤 H A mem run)) where
-  region-sums-of-walks : Walks 𝓤 H A region-sums-of.ended stayed (WpFn 𝓤 H (𝓣 .C) (𝓣 .Λ) code.function) (region-sums-of.clauses 𝓤 H A mem run)
-  region-sums-of-walks = walked 𝓤 H A region-sums-of.ended stayed (region-sums-of.clauses 𝓤 H A mem run) (WpFn 𝓤 H (𝓣 .C) (𝓣 .Λ) code.function)
+module _ {M : Type 1} (𝓤 : URA M) (H : Heap 𝓤) (A : Atoms 𝓤) (W : Given 𝓤 H A) (mem : Memory → SProp 𝓤) (run : Routine → Fun 𝓤) (𝓣 : Tables 𝓤 H) (known-count : Triple 𝓤 (𝓣 .C #region-array·within-array) (Count 𝓤 H A mem run)) (known-region : Triple 𝓤 (𝓣 .C #cells·region-totals) (Region 𝓤 H A mem run)) where
+  region-totals-of-walks : Walks 𝓤 H A region-totals-of.ended stayed (WpFn 𝓤 H (𝓣 .C) (𝓣 .Λ) code.function) (region-totals-of.clauses 𝓤 H A mem run)
+  region-totals-of-walks = walked 𝓤 H A region-totals-of.ended stayed (region-totals-of.clauses 𝓤 H A mem run) (WpFn 𝓤 H (𝓣 .C) (𝓣 .Λ) code.function)
       (λ κs. (vals, (uint-vals w64, tt))) (λ κs. (array-tells T.the-row (LL.vals T.the-type T′.the-laws) (LL.tells T.the-type T′.the-laws) 4097, (uint-tells w64, tt)))
-      (λ κs qs bounds a _ are. via 𝓤 _ (fst∗ 𝓤 _ (emp 𝓤)) (walk 𝓤 H A W mem run (a .0) (are .0) (a .1 .0) (are .1 .0) (𝓣 .C) (𝓣 .Λ) (fmOf 𝓤 H (W .laws) 𝓣) known-count known-sums))
+      (λ κs qs bounds a _ are. via 𝓤 _ (fst∗ 𝓤 _ (emp 𝓤)) (walk 𝓤 H A W mem run (a .0) (are .0) (a .1 .0) (are .1 .0) (𝓣 .C) (𝓣 .Λ) (fmOf 𝓤 H (W .laws) 𝓣) known-count known-region))
 
-  region-sums-of-meets : Meets 𝓤 H A region-sums-of.signature (WpFn 𝓤 H (𝓣 .C) (𝓣 .Λ) code.function) (region-sums-of.spec 𝓤 H A mem run)
-  region-sums-of-meets = walk-meets 𝓤 H A region-sums-of.ended stayed W (goes-dropped 𝓤 H A W 0 (plain (λ _. Row)) yes (λ κs x f. refl), (goes-dropped 𝓤 H A W 0 (plain (λ _. usize)) yes (λ κs x f. refl), tt))
-      (region-sums-of.clauses 𝓤 H A mem run) (WpFn 𝓤 H (𝓣 .C) (𝓣 .Λ) code.function) (WpFn-mono 𝓤 H (W .laws) 𝓣 code.function) region-sums-of-walks
+  region-totals-of-meets : Meets 𝓤 H A region-totals-of.signature (WpFn 𝓤 H (𝓣 .C) (𝓣 .Λ) code.function) (region-totals-of.spec 𝓤 H A mem run)
+  region-totals-of-meets = walk-meets 𝓤 H A region-totals-of.ended stayed W (goes-dropped 𝓤 H A W 0 (plain (λ _. Row)) yes (λ κs x f. refl), (goes-dropped 𝓤 H A W 0 (plain (λ _. usize)) yes (λ κs x f. refl), tt))
+      (region-totals-of.clauses 𝓤 H A mem run) (WpFn 𝓤 H (𝓣 .C) (𝓣 .Λ) code.function) (WpFn-mono 𝓤 H (W .laws) 𝓣 code.function) region-totals-of-walks
 
-pub region-sums-of-spec : {M : Type 1} → stated.statement M
+pub region-totals-of-spec : {M : Type 1} → stated.statement M
 unfolding code.routine tablesOf
-region-sums-of-spec 𝓤 H 𝓜 𝓖 𝓡 =
-    entered 𝓤 H (tripleOf 𝓤 H (𝓖 .A) region-sums-of.signature (region-sums-of.spec 𝓤 H (𝓖 .A) (𝓜 .mem) (𝓡 .run)))
-    (tables 𝓤 H 𝓜 𝓡 code.env .C) (tables 𝓤 H 𝓜 𝓡 code.env .Λ) #region-array·region-sums-of code.function (code.unfolded 𝓤 H 𝓜 𝓡)
-    (region-sums-of-meets 𝓤 H (𝓖 .A) (givenOf 𝓤 H 𝓜 𝓖) (𝓜 .mem) (𝓡 .run) (tablesOf 𝓤 H 𝓜 (tables 𝓤 H 𝓜 𝓡 code.env))
+region-totals-of-spec 𝓤 H 𝓜 𝓖 𝓡 =
+    entered 𝓤 H (tripleOf 𝓤 H (𝓖 .A) region-totals-of.signature (region-totals-of.spec 𝓤 H (𝓖 .A) (𝓜 .mem) (𝓡 .run)))
+    (tables 𝓤 H 𝓜 𝓡 code.env .C) (tables 𝓤 H 𝓜 𝓡 code.env .Λ) #region-array·region-totals-of code.function (code.unfolded 𝓤 H 𝓜 𝓡)
+    (region-totals-of-meets 𝓤 H (𝓖 .A) (givenOf 𝓤 H 𝓜 𝓖) (𝓜 .mem) (𝓡 .run) (tablesOf 𝓤 H 𝓜 (tables 𝓤 H 𝓜 𝓡 code.env))
     (cited 𝓤 H (Count 𝓤 H (𝓖 .A) (𝓜 .mem) (𝓡 .run)) 𝓜 𝓡 code.env #region-array·within-array within-array-def.routine code.calls-region-array·within-array (within-array-thm.met 𝓤 H 𝓜 𝓖 𝓡))
-    (cited 𝓤 H (Sums 𝓤 H (𝓖 .A) (𝓜 .mem) (𝓡 .run)) 𝓜 𝓡 code.env #cells·region-sums region-sums-def.routine code.calls-cells·region-sums (region-sums-thm.met 𝓤 H 𝓜 𝓖 𝓡)))
+    (cited 𝓤 H (Region 𝓤 H (𝓖 .A) (𝓜 .mem) (𝓡 .run)) 𝓜 𝓡 code.env #cells·region-totals region-totals-def.routine code.calls-cells·region-totals (region-totals-thm.met 𝓤 H 𝓜 𝓖 𝓡)))

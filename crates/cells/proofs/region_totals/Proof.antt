@@ -1,5 +1,5 @@
--- `cells::region_sums` meets its contract: a walk of its MIR, by hand. The borrow is looked into once, before the loop, and shut after it. Each turn takes one run out of the row, copies it,
--- puts it back and calls `add_run`. The loop's invariant: the scan stands for the runs read so far.
+-- `cells::region_totals` meets its contract: a walk of its MIR, by hand. The borrow is looked into once, before the loop, and shut after it. Each turn takes one run out of the row, copies it,
+-- puts it back and calls `add_run`; `answer_of` makes the answer. The loop's invariant: the scan stands for the runs read so far.
 mod Cited
 use mathlib.Core.Path.{_≡_, refl, sym, ap}
 use Prim.Native.Nat.{ℕ, _+_, _*_, _<_, _≤_, _^_}
@@ -46,7 +46,7 @@ use denote.Triple.Table.{entered, cited}
 use denote.Triple.Walked.{says, Stays, stay-dropped, walkOf, AllGo, goes-dropped, Walks, ends-at, walked, walk-meets}
 use denote.Exit.{yes}
 use Rattle.cells.specs.RegionCall.{emptyRun, Answers}
-use Rattle.cells.specs.private.Scan.{noRuns, addRun}
+use Rattle.cells.specs.private.Scan.{noRuns, addRun, answerOf}
 use Rattle.cells.specs.declared.Run.{Run}
 use Rattle.cells.specs.declared.Scan.{Scan}
 use Rattle.cells.specs.declared.RegionAnswer.{RegionAnswer}
@@ -66,14 +66,18 @@ use Rattle.cells.proofs.add_run as add-run
 use Rattle.cells.proofs.add_run.Symbol as add-run-def
 use Rattle.cells.proofs.add_run.Symbol.{name as #cells·add-run}
 use Rattle.cells.proofs.add_run.Met as add-run-thm
-use Rattle.cells.proofs.region_sums.Key.{name as #cells·region-sums}
-use Rattle.cells.proofs.region_sums as region-sums
-use Rattle.cells.proofs.region_sums.Statement as stated
-use Rattle.cells.proofs.region_sums.Code as code
-use Rattle.cells.proofs.region_sums.Code.Mir as mir
-use Rattle.cells.proofs.region_sums.Proof.Cited.{vals, svals, made, answer-is, word, slice, big-lit, NoRuns, AddRun, to-none, to-add, goes-none, goes-add, told-none, told-add, State, Less, wf, next, falls, has-room, at-end}
+use Rattle.cells.proofs.answer_of as answer-of
+use Rattle.cells.proofs.answer_of.Symbol as answer-of-def
+use Rattle.cells.proofs.answer_of.Symbol.{name as #cells·answer-of}
+use Rattle.cells.proofs.answer_of.Met as answer-of-thm
+use Rattle.cells.proofs.region_totals.Key.{name as #cells·region-totals}
+use Rattle.cells.proofs.region_totals as region-totals
+use Rattle.cells.proofs.region_totals.Statement as stated
+use Rattle.cells.proofs.region_totals.Code as code
+use Rattle.cells.proofs.region_totals.Code.Mir as mir
+use Rattle.cells.proofs.region_totals.Proof.Cited.{vals, svals, made, word, slice, big-lit, NoRuns, AddRun, AnswerOf, to-none, to-add, to-answer, goes-none, goes-add, goes-answer, told-none, told-add, told-answer, State, Less, wf, next, falls, has-room, all-small, at-end}
 
-abbrev stayed : Stays (region-sums.ended .signature .params) (region-sums.ended .kept)
+abbrev stayed : Stays (region-totals.ended .signature .params) (region-totals.ended .kept)
 stayed = (stay-dropped _ yes, tt)
 
 module _ {M : Type 1} (𝓤 : URA M) (H : Heap 𝓤) (A : Atoms 𝓤) (W : Given 𝓤 H A) (mem : Memory → SProp 𝓤) (run : Routine → Fun 𝓤) (κ : Lft) (q : Share) (b o : ℕ) (γ : GName) (ys : List Run) (gn : Room T.the-row (length ys)) where
@@ -87,16 +91,16 @@ module _ {M : Type 1} (𝓤 : URA M) (H : Heap 𝓤) (A : Atoms 𝓤) (W : Given
   at = (sliceVal (b, o) n ∷ [], tt)
 
   abbrev Post : Val → SProp 𝓤
-  Post = walkOf 𝓤 H A region-sums.ended stayed (region-sums.clauses 𝓤 H A mem run) .post (((κ, tt), (q, tt), tt, x, at), tt)
+  Post = walkOf 𝓤 H A region-totals.ended stayed (region-totals.clauses 𝓤 H A mem run) .post (((κ, tt), (q, tt), tt, x, at), tt)
 
   exits : (r : RegionAnswer) (v : Val) → Is R.the-row r (v ∷ []) → Answers ys r → ent 𝓤 (A .lft κ q) (Post v)
   exits r v is e =
       qed W (‵ (flft κ q) ∷ []) ∵
-      suffices ! _ (ends-at 𝓤 H A region-sums.ended stayed (region-sums.clauses 𝓤 H A mem run) W (((κ, tt), (q, tt), tt, x, at), tt) v r (tt, tt) (tt, tt)) $ says ! e $
+      suffices ! _ (ends-at 𝓤 H A region-totals.ended stayed (region-totals.clauses 𝓤 H A mem run) W (((κ, tt), (q, tt), tt, x, at), tt) v r (tt, tt) (tt, tt)) $ says ! e $
       nothing ! $ move ! (1 ∷ 0 ∷ []) $ join ! $ frame ! $ nothing ! $ nothing ! $ fjoin ! $ frame ! $
       owned ! R.the-row (Is R.the-row) (EL.makes R.the-type R′.the-plain 𝓤 H A) r _ is $ done !
 
-  module _ (𝓣 : Tables 𝓤 H) (fm : FmC 𝓤 H (W .laws) (𝓣 .C)) (known-none : Triple 𝓤 (𝓣 .C #cells·no-runs) (NoRuns 𝓤 H A W mem run)) (known-add : Triple 𝓤 (𝓣 .C #cells·add-run) (AddRun 𝓤 H A W mem run)) where
+  module _ (𝓣 : Tables 𝓤 H) (fm : FmC 𝓤 H (W .laws) (𝓣 .C)) (known-none : Triple 𝓤 (𝓣 .C #cells·no-runs) (NoRuns 𝓤 H A W mem run)) (known-add : Triple 𝓤 (𝓣 .C #cells·add-run) (AddRun 𝓤 H A W mem run)) (known-answer : Triple 𝓤 (𝓣 .C #cells·answer-of) (AnswerOf 𝓤 H A W mem run)) where
     abbrev C : Calls 𝓤 H
     C = 𝓣 .C
 
@@ -161,13 +165,18 @@ module _ {M : Type 1} (𝓤 : URA M) (H : Heap 𝓤) (A : Atoms 𝓤) (W : Given
             assigns ! (of-opd ! (load ! (from ! (fld ! refl (stop !))) (look-in ! 7 (sub ! 1 refl (whole !))))) (from ! (stop !)) (init ! 2 refl (tt, record { fits = gn .0 })) $
             assigns ! (bin ! (load ! (from ! (stop !)) (look ! 1 refl)) (load ! (from ! (stop !)) (look ! 2 refl)) tt) (from ! (stop !)) (init ! 3 refl (tt, tt)) $
             rewrite ! 3 (λ (t : Bool). ‵ (fat fullShare tyBool l₇ 0 (vbool t))) e refl $ leaves-loop ! (load ! (from ! (stop !)) (look ! 3 refl)) $ exec ! C Λ E mir.t-7 (atRet E Post) $
-            assigns ! (of-opd ! (load ! (from ! (fld ! refl (stop !))) (look-in ! 0 (sub ! 2 refl (whole !))))) (from ! (stop !)) (init ! 8 refl (EL.lawful R.the-type R′.the-laws 𝓤 H A W tt .typed (s .scan .answer) _ (answer-is (s .scan) (s .is)) .0)) $
+            use0 W (raw (AnswerOf 𝓤 H A W mem run .pre (to-answer 𝓤 H A W mem run (s .scan)))) (goes-answer 𝓤 H A W mem run (s .scan) (s .is) (all-small ys few s (ltb-false (s .i) n e))) $
+            calls-at ! fm (AnswerOf 𝓤 H A W mem run) known-answer (to-answer 𝓤 H A W mem run (s .scan)) (and-then ! (load ! (from ! (stop !)) (look ! 1 refl)) (no-more !)) (λ v.
+            use1 W (later (some (λ (r : RegionAnswer). (‵ ftrue ⊛ ‵ (R.the-row .own r (v ∷ []))) ⊛ raw (ensured 𝓤 H A answer-of.ended (answer-of.clauses 𝓤 H A mem run) tt (s .scan, tt) tt r)))) (id⊢ 𝓤 _) $ await ! tt $ pick ! (λ r.
+            split ! $ move ! (1 ∷ []) $ use1 W (raw (fact 𝓤 (r ≡ answerOf (s .scan .found)))) (told-answer 𝓤 H A W mem run (s .scan) r) $ heard ! (r ≡ answerOf (s .scan .found)) (λ e′. split ! $ drop ! $
+            peeks ! R.the-row (Is R.the-row) (shows 𝓤 H A R.the-row) r (v ∷ []) (λ is. drop ! $
+            land ! (from ! (stop !)) (init ! 8 refl (EL.lawful R.the-type R′.the-laws 𝓤 H A W tt .typed r _ is .0)) $
             -- [_2; _3; _6; _7; room for _8; room for _9; the runs; _1; _0; what shuts; room for _4; room for _5; and that each local dies]
             move ! (6 ∷ 9 ∷ []) $ shuts-slice ! tt T.the-row q′ ys b o $
             returns ! (look ! 8 refl) $ forget ! 1 refl $ forget ! 2 refl $ forget ! 3 refl $ forget ! 4 refl $ forget ! 7 refl $ forget ! 8 refl $
             move ! (8 ∷ 11 ∷ []) $ free1 ! $ move ! (7 ∷ 10 ∷ []) $ free1 ! $ move ! (1 ∷ 9 ∷ []) $ free1 ! $ move ! (1 ∷ 8 ∷ []) $ free1 ! $ move ! (5 ∷ 7 ∷ []) $ free1 ! $ move ! (5 ∷ 6 ∷ []) $ free1 ! $
             move ! (1 ∷ 5 ∷ []) $ free1 ! $ move ! (1 ∷ 4 ∷ []) $ free1 ! $ move ! (1 ∷ 3 ∷ []) $ free1 ! $ move ! (1 ∷ 2 ∷ []) $ free1 ! $ free0 ! $
-            by ! (exits (s .scan .answer) _ (answer-is (s .scan) (s .is)) (at-end ys few s (ltb-false (s .i) n e)))
+            by ! (exits r _ is (rw e′ (at-end ys few s (ltb-false (s .i) n e))))))))
 
         looped : (s : State ys) → Sq W (Inv s) (runs C Λ E mir.t-6 (atRet E Post))
         looped s = first ! $ blocks ! $ loops ! 𝓣 (Less ys) (wf ys) Inv (λ s. turn-at s (ltb (s .i) n) refl) s
@@ -213,7 +222,7 @@ module _ {M : Type 1} (𝓤 : URA M) (H : Heap 𝓤) (A : Atoms 𝓤) (W : Given
       tested : Sq W Tested (runs C Λ E mir.t-3 (atRet E Post))
       tested = first ! $ branches ! (load ! (from ! (stop !)) (look ! 8 refl)) refuses (λ t. goes-on (nltb→le 4096 n t))
 
-    walk : ent 𝓤 (onEntry 𝓤 H A region-sums.signature (κ, tt) (q, tt) x at) (WpFn 𝓤 H C Λ code.function (sliceVal (b, o) n ∷ []) Post)
+    walk : ent 𝓤 (onEntry 𝓤 H A region-totals.signature (κ, tt) (q, tt) x at) (WpFn 𝓤 H C Λ code.function (sliceVal (b, o) n ∷ []) Post)
     walk =
         qed W ((‵ (flft κ q) ⊛ ‵ ftrue) ∷ ‵ (owns (ShrSlice (named 0) κ T.the-row ∷ []) x at) ∷ []) ∵ enter ! C Λ code.function (sliceVal (b, o) n ∷ []) _ $
         alloc1 ! (λ l₀. alloc1 ! (λ l₁. alloc1 ! (λ l₂. alloc1 ! (λ l₃. alloc1 ! (λ l₄. alloc1 ! (λ l₅. alloc1 ! (λ l₆. alloc1 ! (λ l₇. alloc1 ! (λ l₈. alloc1 ! (λ l₉. alloc0 ! $ params1 ! $
@@ -222,22 +231,23 @@ module _ {M : Type 1} (𝓤 : URA M) (H : Heap 𝓤) (A : Atoms 𝓤) (W : Given
         assigns ! (bin ! (big-lit ! (record { fits = lit< tt })) (load ! (from ! (stop !)) (look ! 10 refl)) tt) (from ! (stop !)) (init ! 8 refl (tt, tt)) $
         tested l₀ l₁ l₂ l₃ l₄ l₅ l₆ l₇ l₈ l₉))))))))))
 
-module _ {M : Type 1} (𝓤 : URA M) (H : Heap 𝓤) (A : Atoms 𝓤) (W : Given 𝓤 H A) (mem : Memory → SProp 𝓤) (run : Routine → Fun 𝓤) (𝓣 : Tables 𝓤 H) (known-none : Triple 𝓤 (𝓣 .C #cells·no-runs) (NoRuns 𝓤 H A W mem run)) (known-add : Triple 𝓤 (𝓣 .C #cells·add-run) (AddRun 𝓤 H A W mem run)) where
-  region-sums-walks : Walks 𝓤 H A region-sums.ended stayed (WpFn 𝓤 H (𝓣 .C) (𝓣 .Λ) code.function) (region-sums.clauses 𝓤 H A mem run)
-  region-sums-walks = walked 𝓤 H A region-sums.ended stayed (region-sums.clauses 𝓤 H A mem run) (WpFn 𝓤 H (𝓣 .C) (𝓣 .Λ) code.function) (λ κs. (slice-vals, tt)) (λ κs. (shr-slice-tells (named 0) (κs .0) T.the-row, tt))
-      (λ κs qs bounds a _ are. via 𝓤 _ (fst∗ 𝓤 _ (emp 𝓤)) (walk 𝓤 H A W mem run (κs .0) (qs .0) (a .0 .ptr .0) (a .0 .ptr .1) (a .0 .name) (a .0 .now) (are .0 .0 .1) 𝓣 (fmOf 𝓤 H (W .laws) 𝓣) known-none known-add))
+module _ {M : Type 1} (𝓤 : URA M) (H : Heap 𝓤) (A : Atoms 𝓤) (W : Given 𝓤 H A) (mem : Memory → SProp 𝓤) (run : Routine → Fun 𝓤) (𝓣 : Tables 𝓤 H) (known-none : Triple 𝓤 (𝓣 .C #cells·no-runs) (NoRuns 𝓤 H A W mem run)) (known-add : Triple 𝓤 (𝓣 .C #cells·add-run) (AddRun 𝓤 H A W mem run)) (known-answer : Triple 𝓤 (𝓣 .C #cells·answer-of) (AnswerOf 𝓤 H A W mem run)) where
+  region-totals-walks : Walks 𝓤 H A region-totals.ended stayed (WpFn 𝓤 H (𝓣 .C) (𝓣 .Λ) code.function) (region-totals.clauses 𝓤 H A mem run)
+  region-totals-walks = walked 𝓤 H A region-totals.ended stayed (region-totals.clauses 𝓤 H A mem run) (WpFn 𝓤 H (𝓣 .C) (𝓣 .Λ) code.function) (λ κs. (slice-vals, tt)) (λ κs. (shr-slice-tells (named 0) (κs .0) T.the-row, tt))
+      (λ κs qs bounds a _ are. via 𝓤 _ (fst∗ 𝓤 _ (emp 𝓤)) (walk 𝓤 H A W mem run (κs .0) (qs .0) (a .0 .ptr .0) (a .0 .ptr .1) (a .0 .name) (a .0 .now) (are .0 .0 .1) 𝓣 (fmOf 𝓤 H (W .laws) 𝓣) known-none known-add known-answer))
 
-  goes : AllGo 𝓤 H A W 1 (region-sums.signature .params) (region-sums.ended .kept) stayed
+  goes : AllGo 𝓤 H A W 1 (region-totals.signature .params) (region-totals.ended .kept) stayed
   goes = (goes-dropped 𝓤 H A W 1 (shrSliceOf (0 ∷ []) tt (plain (λ _. T.the-row))) yes (λ κs x f. refl), tt)
 
-  region-sums-meets : Meets 𝓤 H A region-sums.signature (WpFn 𝓤 H (𝓣 .C) (𝓣 .Λ) code.function) (region-sums.spec 𝓤 H A mem run)
-  region-sums-meets = walk-meets 𝓤 H A region-sums.ended stayed W goes (region-sums.clauses 𝓤 H A mem run) (WpFn 𝓤 H (𝓣 .C) (𝓣 .Λ) code.function) (WpFn-mono 𝓤 H (W .laws) 𝓣 code.function) region-sums-walks
+  region-totals-meets : Meets 𝓤 H A region-totals.signature (WpFn 𝓤 H (𝓣 .C) (𝓣 .Λ) code.function) (region-totals.spec 𝓤 H A mem run)
+  region-totals-meets = walk-meets 𝓤 H A region-totals.ended stayed W goes (region-totals.clauses 𝓤 H A mem run) (WpFn 𝓤 H (𝓣 .C) (𝓣 .Λ) code.function) (WpFn-mono 𝓤 H (W .laws) 𝓣 code.function) region-totals-walks
 
-pub region-sums-spec : {M : Type 1} → stated.statement M
+pub region-totals-spec : {M : Type 1} → stated.statement M
 unfolding code.routine tablesOf
-region-sums-spec 𝓤 H 𝓜 𝓖 𝓡 =
-    entered 𝓤 H (tripleOf 𝓤 H (𝓖 .A) region-sums.signature (region-sums.spec 𝓤 H (𝓖 .A) (𝓜 .mem) (𝓡 .run)))
-    (tables 𝓤 H 𝓜 𝓡 code.env .C) (tables 𝓤 H 𝓜 𝓡 code.env .Λ) #cells·region-sums code.function (code.unfolded 𝓤 H 𝓜 𝓡)
-    (region-sums-meets 𝓤 H (𝓖 .A) (givenOf 𝓤 H 𝓜 𝓖) (𝓜 .mem) (𝓡 .run) (tablesOf 𝓤 H 𝓜 (tables 𝓤 H 𝓜 𝓡 code.env))
+region-totals-spec 𝓤 H 𝓜 𝓖 𝓡 =
+    entered 𝓤 H (tripleOf 𝓤 H (𝓖 .A) region-totals.signature (region-totals.spec 𝓤 H (𝓖 .A) (𝓜 .mem) (𝓡 .run)))
+    (tables 𝓤 H 𝓜 𝓡 code.env .C) (tables 𝓤 H 𝓜 𝓡 code.env .Λ) #cells·region-totals code.function (code.unfolded 𝓤 H 𝓜 𝓡)
+    (region-totals-meets 𝓤 H (𝓖 .A) (givenOf 𝓤 H 𝓜 𝓖) (𝓜 .mem) (𝓡 .run) (tablesOf 𝓤 H 𝓜 (tables 𝓤 H 𝓜 𝓡 code.env))
     (cited 𝓤 H (NoRuns 𝓤 H (𝓖 .A) (givenOf 𝓤 H 𝓜 𝓖) (𝓜 .mem) (𝓡 .run)) 𝓜 𝓡 code.env #cells·no-runs no-runs-def.routine code.calls-cells·no-runs (no-runs-thm.met 𝓤 H 𝓜 𝓖 𝓡))
-    (cited 𝓤 H (AddRun 𝓤 H (𝓖 .A) (givenOf 𝓤 H 𝓜 𝓖) (𝓜 .mem) (𝓡 .run)) 𝓜 𝓡 code.env #cells·add-run add-run-def.routine code.calls-cells·add-run (add-run-thm.met 𝓤 H 𝓜 𝓖 𝓡)))
+    (cited 𝓤 H (AddRun 𝓤 H (𝓖 .A) (givenOf 𝓤 H 𝓜 𝓖) (𝓜 .mem) (𝓡 .run)) 𝓜 𝓡 code.env #cells·add-run add-run-def.routine code.calls-cells·add-run (add-run-thm.met 𝓤 H 𝓜 𝓖 𝓡))
+    (cited 𝓤 H (AnswerOf 𝓤 H (𝓖 .A) (givenOf 𝓤 H 𝓜 𝓖) (𝓜 .mem) (𝓡 .run)) 𝓜 𝓡 code.env #cells·answer-of answer-of-def.routine code.calls-cells·answer-of (answer-of-thm.met 𝓤 H 𝓜 𝓖 𝓡)))

@@ -1,14 +1,15 @@
--- `cells::next_answer` meets its contract: case by case of the answer so far, its tests are the definition's.
+-- `cells::next_found` meets its contract: case by case of what was found so far, its tests are the definition's.
 use mathlib.Core.Path.{_≡_, sym, subst}
 use mathlib.Core.Bool.{false}
 use Prim.Native.Nat.{_^_}
 use borrow.Author.Needs.{needs}
 use Rattle.cells.specs.RegionCall.{badRun}
-use Rattle.cells.specs.private.Scan.{answerWith, SumsWithin}
+use Rattle.cell_ground.specs.private.SumBounds.{SumsWithin}
+use Rattle.cells.specs.private.Scan.{sumsOf, foundWith}
 use Rattle.integers.proofs.Flags.{tells}
-use Rattle.cells.proofs.SumLaws.{in-grid, run-within}
-use Rattle.cells.proofs.next_answer.Statement.{statement}
-use Rattle.cells.proofs.next_answer.Tie as tie
+use Rattle.cells.proofs.GridLaws.{in-grid, run-within}
+use Rattle.cells.proofs.next_found.Statement.{statement}
+use Rattle.cells.proofs.next_found.Tie as tie
 
 -- ---- the places of a run that follows sums so far
 
@@ -29,14 +30,14 @@ not-bad c = tells (c .before .bad-run .ensures) (c .if1 .left)
 -- ---- the needs
 
 returns : tie.Need-returns
-unfolding answerWith
-returns c = let known = c .before .before in rw (known .before .answer .given .1, tells (c .before .bad-run .ensures) (c .if1 .taken))
+unfolding foundWith
+returns c = let known = c .before .before in rw (known .before .found .given .1, tells (c .before .bad-run .ensures) (c .if1 .taken))
 
 returns-2 : tie.Need-returns-2
-unfolding answerWith
+unfolding foundWith
 returns-2 c =
     let good = c .before .before in
-    rw (tested-6 good .before .answer .given .1, not-bad good, tells (c .before .out-of-order .ensures) (c .if2 .taken))
+    rw (tested-6 good .before .found .given .1, not-bad good, tells (c .before .out-of-order .ensures) (c .if2 .taken))
 
 run-sums-requires : tie.Need-run-sums-requires
 run-sums-requires c κs = in-grid _ (not-bad (past-6 c))
@@ -46,34 +47,30 @@ add-sums-requires c κs =
     let good = past-6 (c .before) in
     let known = tested-6 good in
     let start = matched known in
-    (rw (known .before .answer .given .1) at (start .pre .sums), subst (SumsWithin (2 ^ 30)) (sym (c .run-sums .ensures)) (run-within (start .args .run) (in-grid _ (not-bad good))))
+    (rw (known .before .found .given .1) at (start .pre .sums), subst (λ s. SumsWithin (2 ^ 10) (sumsOf s)) (sym (c .run-sums .ensures)) (run-within (start .args .run) (in-grid _ (not-bad good))))
 
 returns-3 : tie.Need-returns-3
-unfolding answerWith
-returns-3 c = let known = c .before .before in rw (known .before .answer2 .given .1, tells (c .before .bad-run2 .ensures) (c .if3 .taken))
+unfolding foundWith
+returns-3 c = let known = c .before .before in rw (known .before .found2 .given .1, tells (c .before .bad-run2 .ensures) (c .if3 .taken))
 
 returns-4 : tie.Need-returns-4
-unfolding answerWith
+unfolding foundWith
 returns-4 c =
     let summed = c .before in
     let in-order = summed .before in
     let good = past-6 in-order in
-    rw (c .add-sums .ensures, summed .run-sums .ensures, tested-6 good .before .answer .given .1, not-bad good, tells (in-order .before .out-of-order .ensures) (in-order .if2 .left))
+    rw (c .add-sums .ensures, summed .run-sums .ensures, tested-6 good .before .found .given .1, not-bad good, tells (in-order .before .out-of-order .ensures) (in-order .if2 .left))
 
 returns-5 : tie.Need-returns-5
-unfolding answerWith
-returns-5 c = let known = c .before .before in rw (known .before .answer2 .given .1, tells (c .before .bad-run2 .ensures) (c .if3 .left))
+unfolding foundWith
+returns-5 c = let known = c .before .before in rw (known .before .found2 .given .1, tells (c .before .bad-run2 .ensures) (c .if3 .left))
 
 returns-6 : tie.Need-returns-6
-unfolding answerWith
-returns-6 c = rw (c .before .answer3 .given .1)
+unfolding foundWith
+returns-6 c = rw (c .before .found3 .given .1)
 
-returns-7 : tie.Need-returns-7
-unfolding answerWith
-returns-7 c = rw (c .enum-told .given .1)
-
-pub next-answer-spec : {M : Type 1} → statement M
-next-answer-spec =
+pub next-found-spec : {M : Type 1} → statement M
+next-found-spec =
     tie.close
     (tie.spec
     (λ c. search needs)
@@ -87,8 +84,6 @@ next-answer-spec =
     (λ c κs. search needs)
     returns-3
     (λ c. search needs)
-    (λ c. search needs)
     returns-4
     returns-5
-    returns-6
-    returns-7)
+    returns-6)

@@ -1,0 +1,39 @@
+-- The statement on accepted regions used, with every quantifier free and at one run, so that a weaker statement is refused here.
+use mathlib.Core.Path.{_≡_, sym, ap, _∙_}
+use mathlib.Core.Bool.{false}
+use mathlib.Core.List.{List, [], _∷_}
+use Prim.Native.Nat.{ℕ, _<_}
+use lib.IntN.{pos}
+use lib.ListN.{length, getD}
+use Rattle.outline.specs.declared.AffineMap.{AffineMap}
+use Rattle.outline.specs.EdgeSums.{exceed, outlineBounds}
+use Rattle.outline.specs.ListCall.{accepted}
+use Rattle.outline.specs.MapCall.{disallowed, mapped, mapCall}
+use Rattle.centroid.specs.Centroid.{outlineCentroidCall}
+use Rattle.cell_ground.specs.CellSums.{origin}
+use Rattle.cell_ground.specs.Ground.{squaresAdded}
+use Rattle.cells.specs.declared.Run.{Run}
+use Rattle.cells.specs.RunCells.{allCells}
+use Rattle.cells.specs.RegionCall.{regionCall}
+use Rattle.cells.proofs.RegionGround.{region-ground}
+use Rattle.cells.proofs.WorkedRun.{worked-run}
+
+module _ (rs : List Run) (i : ℕ) (accepts : regionCall rs i .number ≡ 0) where
+  by-squares : regionCall rs i .totals ≡ squaresAdded (allCells rs)
+  by-squares = region-ground rs i accepts .cell-by-cell
+
+  in-grid : (j : ℕ) → j < length (allCells rs) → (getD (allCells rs) j origin .x < 1024) × (getD (allCells rs) j origin .y < 1024)
+  in-grid j h = let g = region-ground rs i accepts .in-grid j h in (g .column, g .row)
+
+  never-4 : exceed outlineBounds (regionCall rs i .totals) ≡ false
+  never-4 = region-ground rs i accepts .in-bounds
+
+  mapped-by : (m : AffineMap) → disallowed m ≡ false → mapCall m (regionCall rs i .totals) ≡ accepted (mapped m (regionCall rs i .totals))
+  mapped-by = region-ground rs i accepts .taken
+
+  with-centre : 0 < length (allCells rs) → outlineCentroidCall (regionCall rs i .totals) .number ≡ 0
+  with-centre = region-ground rs i accepts .centred
+
+-- The squares of the three cells of a run add up to its totals.
+run-squares : squaresAdded (allCells (record { row = 3; first = 2; length = 3 } ∷ [])) ≡ record { a2 = pos 6; x6 = pos 63; y6 = pos 63; xx12 = pos 468; xy24 = pos 882; yy12 = pos 444 }
+run-squares = sym (by-squares (record { row = 3; first = 2; length = 3 } ∷ []) 0 (ap (λ o. o .number) (worked-run 0))) ∙ ap (λ o. o .totals) (worked-run 0)
