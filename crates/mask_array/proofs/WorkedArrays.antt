@@ -5,7 +5,7 @@ use mathlib.Core.List.{List, [], _∷_}
 use lib.ListN.{replicate}
 use Rattle.word_runs.specs.Bits.{firstWhere}
 use Rattle.cells.specs.declared.Run.{Run}
-use Rattle.cells.specs.CellSums.{cellsFrom}
+use Rattle.cells.specs.RunCells.{cellsFrom}
 use Rattle.cells.specs.RegionCall.{tooMany}
 use Rattle.mask_cells.specs.MaskCells.{isMarked, rowsFrom, those, beginsRun, endColumn, longestRuns}
 use Rattle.mask_cells.specs.MaskCalls.{wrongLength, tooManyFor, maskRunsCall}

@@ -4,7 +4,7 @@ pub mod Those
 pub mod RunSteps
 pub mod NextRuns
 pub mod WordCells
-pub mod RowSums
+pub mod WordGround
 mod MarkedBits
 mod RunsFrom
 mod RunsCells
@@ -14,6 +14,7 @@ mod OnlyLongest
 mod RunsAccepted
 mod WrittenRegion
 mod MaskRefusals
+mod MaskGround
 mod OnesCounted
 mod MaskLimits
 mod WorkedMasks

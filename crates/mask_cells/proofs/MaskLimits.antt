@@ -1,4 +1,4 @@
--- Both sides of each limit of the refusals 31 and 8, for the sums and for the writer, and the order of the two.
+-- Both sides of each limit of the refusals 31 and 8, for the totals and for the writer, and the order of the two.
 use Prim.Native.Nat.{ℕ, _+_, _*_, _/_, _%_, _≤_, _<_}
 use mathlib.Core.Path.{_≡_, refl, ap}
 use mathlib.Core.Bool.{true, false, not}
@@ -10,31 +10,31 @@ use borrow.Author.Tests.{lt-ltb, le-ltb, eq-eqb, ne-eqb}
 use Rattle.integers.proofs.Flags.{neither}
 use Rattle.word_runs.specs.Bits.{firstWhere}
 use Rattle.cells.specs.declared.Run.{Run}
-use Rattle.cells.specs.CellSums.{cellsFrom}
+use Rattle.cells.specs.RunCells.{cellsFrom}
 use Rattle.cells.specs.RegionCall.{tooMany}
 use Rattle.mask_cells.specs.MaskCells.{isMarked, rowsFrom, those, beginsRun, endColumn, longestRuns}
-use Rattle.mask_cells.specs.MaskCalls.{wrongLength, maskSumsCall, MaskRunsOutcome, tooManyFor, maskRunsCall}
+use Rattle.mask_cells.specs.MaskCalls.{wrongLength, maskTotalsCall, MaskRunsOutcome, tooManyFor, maskRunsCall}
 
 -- ---- 31
 
 -- Both calls refuse every mask of n words with 31, whatever its words are and whatever the caller's list holds: so 31 comes before 8.
 record Refused (n : ℕ) : Type 0 where
-  sums : (ws : List ℕ) → length ws ≡ n → maskSumsCall ws ≡ record { number = 31; sums = record { count = pos 0; x = pos 0; y = pos 0; xx = pos 0; xy = pos 0; yy = pos 0 } }
+  totals : (ws : List ℕ) → length ws ≡ n → maskTotalsCall ws ≡ record { number = 31; totals = record { a2 = pos 0; x6 = pos 0; y6 = pos 0; xx12 = pos 0; xy24 = pos 0; yy12 = pos 0 } }
   runs : (ws : List ℕ) → length ws ≡ n → (before : List Run) → maskRunsCall ws before ≡ record { number = 31; index = 0; count = 0; list = before }
 
--- The sums of a mask of n words are never refused; nor is the writer, where its runs are not too many.
+-- The totals of a mask of n words are never refused; nor is the writer, where its runs are not too many.
 record Taken (n : ℕ) : Type 0 where
-  sums : (ws : List ℕ) → length ws ≡ n → maskSumsCall ws .number ≡ 0
+  totals : (ws : List ℕ) → length ws ≡ n → maskTotalsCall ws .number ≡ 0
   runs : (ws : List ℕ) → length ws ≡ n → (before : List Run) → tooManyFor before (longestRuns ws) ≡ false → maskRunsCall ws before .number ≡ 0
 
 -- The test looks at the number of words alone, so n tells what holds of every mask of n words.
 refused-as : (n : ℕ) → wrongLength n ≡ true → Refused n
-unfolding maskSumsCall maskRunsCall
-refused-as n e = record { sums = λ ws l. rw (l, e); runs = λ ws l before. rw (l, e) }
+unfolding maskTotalsCall maskRunsCall
+refused-as n e = record { totals = λ ws l. rw (l, e); runs = λ ws l before. rw (l, e) }
 
 taken-as : (n : ℕ) → wrongLength n ≡ false → Taken n
-unfolding maskSumsCall maskRunsCall
-taken-as n e = record { sums = λ ws l. rw (l, e); runs = λ ws l before few. rw (l, e, few) }
+unfolding maskTotalsCall maskRunsCall
+taken-as n e = record { totals = λ ws l. rw (l, e); runs = λ ws l before few. rw (l, e, few) }
 
 -- Whole rows up to 1,024 are taken; more rows, and a part of a row, are refused.
 rows-taken : (n : ℕ) → n ≤ 1024 → Taken (16 * n)
@@ -59,7 +59,7 @@ record Lengths : Type 0 where
   row-more : Refused 17
   half-row-more : Refused 24
   two-rows : Taken 32
-  -- a mask of nine rows can have more than 4,096 runs, and has its sums
+  -- a mask of nine rows can have more than 4,096 runs, and has its totals
   nine-rows : Taken 144
   -- 1,024 rows, a word less or more, and a row more
   grid-less : Refused 16_383
@@ -125,9 +125,9 @@ eight = record { as-many = refl; one-less = refl; too-many = refl; far-more-room
 record Order : Type 0 where
   no-room : maskRunsCall (1 ∷ replicate 16 0) [] ≡ record { number = 31; index = 0; count = 0; list = [] }
   too-many-runs : maskRunsCall (nineRows ++ 0 ∷ []) (room 2) ≡ record { number = 31; index = 0; count = 0; list = room 2 }
-  -- the sums are not refused with 8
-  sums : maskSumsCall nineRows .number ≡ 0
+  -- the totals are not refused with 8
+  totals : maskTotalsCall nineRows .number ≡ 0
 
 order : Order
-unfolding firstWhere cellsFrom tooMany isMarked rowsFrom those beginsRun endColumn longestRuns wrongLength maskSumsCall tooManyFor maskRunsCall
-order = record { no-room = refl; too-many-runs = refl; sums = refl }
+unfolding firstWhere cellsFrom tooMany isMarked rowsFrom those beginsRun endColumn longestRuns wrongLength maskTotalsCall tooManyFor maskRunsCall
+order = record { no-room = refl; too-many-runs = refl; totals = refl }

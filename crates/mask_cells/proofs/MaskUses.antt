@@ -8,11 +8,18 @@ use lib.Dec.{eqb}
 use lib.IntN.{pos}
 use lib.ListN.{length, getD, take, drop}
 use Rattle.word_runs.specs.Bits.{bit, onesBelow}
+use Rattle.outline.specs.declared.Totals.{Totals}
+use Rattle.outline.specs.declared.AffineMap.{AffineMap}
+use Rattle.outline.specs.EdgeSums.{zeros, exceed, outlineBounds}
+use Rattle.outline.specs.ListCall.{Outcome, accepted}
+use Rattle.outline.specs.MapCall.{disallowed, mapped, mapCall}
+use Rattle.cell_ground.specs.Ground.{groundOf, squaresAdded}
+use Rattle.cell_ground.specs.GroundLaws.{TotalsOfGround}
 use Rattle.cells.specs.declared.Run.{Run}
-use Rattle.cells.specs.CellSums.{cellsFrom, allCells, zeros, sumsOver}
+use Rattle.cells.specs.RunCells.{cellsFrom, allCells}
 use Rattle.cells.specs.RegionCall.{tooMany, regionCall, runAt}
 use Rattle.mask_cells.specs.MaskCells.{cellAt, isMarked, those, markedCells, longestRuns}
-use Rattle.mask_cells.specs.MaskCalls.{MaskSumsOutcome, wrongLength, maskSumsCall, maskRunsCall}
+use Rattle.mask_cells.specs.MaskCalls.{wrongLength, maskTotalsCall, maskRunsCall}
 use Rattle.mask_cells.specs.MaskLaws.{onesIn}
 use Rattle.mask_cells.proofs.MarkedBits.{marked-bits}
 use Rattle.mask_cells.proofs.RunsCells.{runs-cells}
@@ -22,6 +29,7 @@ use Rattle.mask_cells.proofs.OnlyLongest.{only-longest}
 use Rattle.mask_cells.proofs.RunsAccepted.{runs-accepted}
 use Rattle.mask_cells.proofs.WrittenRegion.{written-region}
 use Rattle.mask_cells.proofs.MaskRefusals.{mask-refusals}
+use Rattle.mask_cells.proofs.MaskGround.{mask-ground}
 use Rattle.mask_cells.proofs.OnesCounted.{ones-in-word, ones-counted}
 use Rattle.mask_cells.proofs.WorkedMasks.{old, corners, cornerRuns, worked-corners}
 
@@ -57,19 +65,31 @@ module _ (ws : List ℕ) where
       → allCells rs ≡ markedCells ws → rs ≡ runs
   no-other-list = only-longest ws
 
-  accepted : wrongLength (length ws) ≡ false → tooMany runs ≡ false → (i : ℕ) → regionCall runs i ≡ record { number = 0; index = 0; sums = sumsOver (markedCells ws) }
-  accepted = runs-accepted ws
+  runs-taken : wrongLength (length ws) ≡ false → tooMany runs ≡ false → (i : ℕ) → regionCall runs i ≡ record { number = 0; index = 0; totals = groundOf (markedCells ws) }
+  runs-taken = runs-accepted ws
+
+  whole-ground : maskTotalsCall ws .number ≡ 0 → TotalsOfGround (markedCells ws) (maskTotalsCall ws .totals)
+  whole-ground = mask-ground ws
+
+  cell-by-cell : maskTotalsCall ws .number ≡ 0 → maskTotalsCall ws .totals ≡ squaresAdded (markedCells ws)
+  cell-by-cell h = mask-ground ws h .cell-by-cell
+
+  in-bounds : maskTotalsCall ws .number ≡ 0 → exceed outlineBounds (maskTotalsCall ws .totals) ≡ false
+  in-bounds h = mask-ground ws h .in-bounds
+
+  mapped-as : maskTotalsCall ws .number ≡ 0 → (m : AffineMap) → disallowed m ≡ false → mapCall m (maskTotalsCall ws .totals) ≡ accepted (mapped m (maskTotalsCall ws .totals))
+  mapped-as h = mask-ground ws h .taken
 
   ones-of-a-word : (k : ℕ) → length (those (isMarked ws) (cellsFrom (k / 16) (64 * (k % 16)) 64)) ≡ onesBelow 64 (getD ws k 0)
   ones-of-a-word = ones-in-word ws
 
-  ones-of-all : maskSumsCall ws .number ≡ 0 → maskSumsCall ws .sums .count ≡ pos (onesIn ws)
+  ones-of-all : maskTotalsCall ws .number ≡ 0 → maskTotalsCall ws .totals .a2 ≡ pos (2 * onesIn ws)
   ones-of-all = ones-counted ws
 
   module _ (before : List Run) where
     both-calls : maskRunsCall ws before .number ≡ 0 → (i : ℕ)
-        → regionCall (take (maskRunsCall ws before .count) (maskRunsCall ws before .list)) i ≡ record { number = maskSumsCall ws .number; index = 0; sums = maskSumsCall ws .sums }
-    both-calls h i = written-region ws before h .sums i ∙ ap (λ n. record { number = n; index = 0; sums = maskSumsCall ws .sums }) (sym (written-region ws before h .mask-accepted))
+        → regionCall (take (maskRunsCall ws before .count) (maskRunsCall ws before .list)) i ≡ record { number = maskTotalsCall ws .number; index = 0; totals = maskTotalsCall ws .totals }
+    both-calls h i = written-region ws before h .totals i ∙ ap (λ n. record { number = n; index = 0; totals = maskTotalsCall ws .totals }) (sym (written-region ws before h .mask-accepted))
 
     all-counted : maskRunsCall ws before .number ≡ 0 → maskRunsCall ws before .count ≡ length runs
     all-counted h = written-region ws before h .count
@@ -83,17 +103,27 @@ module _ (ws : List ℕ) where
     not-counted : maskRunsCall ws before .number ≢ 0 → maskRunsCall ws before .count ≡ 0
     not-counted h = mask-refusals ws before .count h
 
-    no-sums : maskSumsCall ws .number ≢ 0 → maskSumsCall ws .sums ≡ zeros
-    no-sums h = mask-refusals ws before .sums h
+    no-totals : maskTotalsCall ws .number ≢ 0 → maskTotalsCall ws .totals ≡ zeros
+    no-totals h = mask-refusals ws before .totals h
 
 -- ---- one mask, written into a list of six
 
 abbrev six : List Run
 six = old 0 ∷ old 1 ∷ old 2 ∷ old 3 ∷ old 4 ∷ old 5 ∷ []
 
--- The call on the four written runs gives the sums of the mask.
-corner-sums : (i : ℕ) → regionCall cornerRuns i ≡ record { number = 0; index = 0; sums = record { count = pos 6; x = pos 1215; y = pos 1; xx = pos 1_058_819; xy = pos 0; yy = pos 1 } }
-corner-sums i =
+abbrev cornerTotals : Totals
+cornerTotals = record { a2 = pos 12; x6 = pos 7308; y6 = pos 24; xx12 = pos 12_720_432; xy24 = pos 14_628; yy12 = pos 48 }
+
+-- The call on the four written runs gives the totals of the mask.
+corner-totals : (i : ℕ) → regionCall cornerRuns i ≡ record { number = 0; index = 0; totals = cornerTotals }
+corner-totals i =
     ap (λ o. regionCall (take (o .count) (o .list)) i) (sym (worked-corners .longer))
     ∙ both-calls corners six (ap (λ o. o .number) (worked-corners .longer)) i
-    ∙ ap (λ (o : MaskSumsOutcome). record { number = o .number; index = 0; sums = o .sums }) (worked-corners .sums)
+    ∙ ap (λ (o : Outcome). record { number = o .number; index = 0; totals = o .totals }) (worked-corners .totals)
+
+-- What the call on a whole list answers for the corners of its six cells, added, are the same totals.
+corner-cells : squaresAdded (markedCells corners) ≡ cornerTotals
+corner-cells = sym (cell-by-cell corners (ap (λ o. o .number) (worked-corners .totals))) ∙ ap (λ o. o .totals) (worked-corners .totals)
+
+corner-ones : cornerTotals .a2 ≡ pos (2 * onesIn corners)
+corner-ones = ap (λ o. o .totals .a2) (sym (worked-corners .totals)) ∙ ones-of-all corners (ap (λ o. o .number) (worked-corners .totals))

@@ -8,15 +8,17 @@ use native.Mathlib.Omega.{arith}
 use lib.IntN.{pos}
 use lib.ListN.{length, getD, length-append}
 use Rattle.word_runs.specs.Bits.{onesBelow}
-use Rattle.cells.specs.CellSums.{zeros, sumsOver}
+use Rattle.outline.specs.ListCall.{Outcome, accepted, refused}
+use Rattle.cell_ground.specs.Ground.{groundOf}
+use Rattle.cell_ground.proofs.GroundBounds.{twice-count}
 use Rattle.mask_cells.specs.MaskCells.{isMarked, those, markedCells}
-use Rattle.mask_cells.specs.MaskCalls.{MaskSumsOutcome, wrongLength, maskSumsCall}
+use Rattle.mask_cells.specs.MaskCalls.{wrongLength, maskTotalsCall}
 use Rattle.mask_cells.specs.MaskLaws.{OnesInWord, onesIn, OnesCounted}
 use Rattle.mask_cells.specs.private.Positions.{cellsOn}
 use Rattle.mask_cells.proofs.Lengths.{whole-rows}
 use Rattle.mask_cells.proofs.Positions.{positions, grid-cells, row-cells}
 use Rattle.mask_cells.proofs.Those.{in-parts}
-use Rattle.mask_cells.proofs.WordCells.{word-cells, counted, count-cells}
+use Rattle.mask_cells.proofs.WordCells.{word-cells, counted}
 
 module _ (ws : List ℕ) where
   -- How many of n positions from g on are marked.
@@ -50,21 +52,20 @@ ones-in-word ws k =
     ∙ marked-word ws k
 
 -- Of a mask of whole rows.
-whole-mask : (ws : List ℕ) → length ws % 16 ≡ 0 → sumsOver (markedCells ws) .count ≡ pos (onesIn ws)
+whole-mask : (ws : List ℕ) → length ws % 16 ≡ 0 → length (markedCells ws) ≡ onesIn ws
 unfolding markedCells
 whole-mask ws whole =
     let all : positions ws ≡ 64 * length ws = omega arith in
     let same : (j : ℕ) → getD ws (0 + j) 0 ≡ getD ws j 0 = λ j. let plain : 0 + j ≡ j = omega arith in ap (λ i. getD ws i 0) plain in
-    count-cells (markedCells ws)
-    ∙ ap pos (ap (λ cs. length (those (isMarked ws) cs)) (grid-cells ws ∙ ap (cellsOn 0) all) ∙ ones-of ws 0 ws same)
+    ap (λ cs. length (those (isMarked ws) cs)) (grid-cells ws ∙ ap (cellsOn 0) all) ∙ ones-of ws 0 ws same
 
 pub ones-counted : OnesCounted
-unfolding maskSumsCall
+unfolding maskTotalsCall
 ones-counted ws = go (wrongLength (length ws)) refl
   where
-    given : Bool → MaskSumsOutcome
-    given b = cond b (record { number = 31; sums = zeros }) (record { number = 0; sums = sumsOver (markedCells ws) })
+    given : Bool → Outcome
+    given b = cond b (refused 31) (accepted (groundOf (markedCells ws)))
 
-    go : (b : Bool) → wrongLength (length ws) ≡ b → given b .number ≡ 0 → given b .sums .count ≡ pos (onesIn ws)
+    go : (b : Bool) → wrongLength (length ws) ≡ b → given b .number ≡ 0 → given b .totals .a2 ≡ pos (2 * onesIn ws)
     go true wrong h = absurd (omega arith)
-    go false right h = whole-mask ws (whole-rows (length ws) right)
+    go false right h = twice-count (markedCells ws) ∙ ap (λ n. pos (2 * n)) (whole-mask ws (whole-rows (length ws) right))

@@ -6,8 +6,9 @@ use Prim.Native.Nat.{ℕ, zero, suc, _+_, _<_}
 use native.Mathlib.Nat.{add-zero}
 use native.Mathlib.Omega.{arith}
 use lib.ListN.{length, getD}
+use Rattle.cell_ground.specs.CellSums.{Cell, origin}
 use Rattle.cells.specs.declared.Run.{Run}
-use Rattle.cells.specs.CellSums.{Cell, origin, cellsFrom, cellsOf, allCells}
+use Rattle.cells.specs.RunCells.{cellsFrom, cellsOf, allCells}
 use Rattle.mask_cells.specs.MaskCells.{cellAt, longestRuns}
 use Rattle.mask_cells.specs.MaskLaws.{NoneEmpty, OnlyLongest}
 use Rattle.mask_cells.proofs.NoneTouch.{NextApart, ApartInTurn, apart-in-turn, longest-in-turn}

@@ -8,7 +8,7 @@ use lib.Dec.{eqb}
 use lib.ListN.{length, getD}
 use Rattle.word_runs.specs.Bits.{bit}
 use Rattle.word_runs.specs.private.WordList.{bitAt}
-use Rattle.cells.specs.CellSums.{cellsFrom}
+use Rattle.cells.specs.RunCells.{cellsFrom}
 use Rattle.mask_cells.specs.MaskCells.{cellAt, isMarked, rowsFrom, maskGrid}
 use Rattle.mask_cells.specs.private.Positions.{cellOf, cellsOn}
 

@@ -1,4 +1,4 @@
--- The call on runs accepts the longest runs of a mask that has not too many, with the sums over the marked cells.
+-- The call on runs accepts the longest runs of a mask that has not too many, with the totals of the ground under the marked cells.
 use mathlib.Core.Path.{_≡_, refl, ap}
 use mathlib.Core.Bool.{true, false, not}
 use mathlib.Core.List.{List, [], _∷_}
@@ -8,8 +8,8 @@ use native.Mathlib.Omega.{arith}
 use lib.ListN.{length}
 use borrow.Author.Tests.{lt-ltb, le-ltb, le-leb, eq-eqb, ne-eqb}
 use Rattle.integers.proofs.Flags.{neither}
+use Rattle.cell_ground.specs.Ground.{groundOf}
 use Rattle.cells.specs.declared.Run.{Run}
-use Rattle.cells.specs.CellSums.{sumsOver}
 use Rattle.cells.specs.RegionCall.{badRun, anyBad, liesAfter, disordered, regionCall, runAt}
 use Rattle.mask_cells.specs.MaskCells.{longestRuns}
 use Rattle.mask_cells.specs.MaskLaws.{Apart, Longest, RunsAccepted}
@@ -49,4 +49,4 @@ unfolding regionCall
 runs-accepted ws right few i =
     let good = none-bad (longestRuns ws) (λ k h. longest-good ws (runAt (longestRuns ws) k) (rows-in-grid (length ws) right) (each-longest ws k h)) in
     let ordered = apart-ordered (longestRuns ws) (longest-in-turn ws) in
-    rw (few, good, ordered) (ap (λ cs. record { number = 0; index = 0; sums = sumsOver cs }) (runs-cells ws))
+    rw (few, good, ordered) (ap (λ cs. record { number = 0; index = 0; totals = groundOf cs }) (runs-cells ws))

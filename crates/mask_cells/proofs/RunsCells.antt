@@ -4,7 +4,7 @@ use mathlib.Core.List.{List, [], _∷_, _++_}
 use Prim.Native.Nat.{ℕ, _-_}
 use native.Mathlib.Omega.{arith}
 use Rattle.cells.specs.declared.Run.{Run}
-use Rattle.cells.specs.CellSums.{cellsOf, allCells}
+use Rattle.cells.specs.RunCells.{cellsOf, allCells}
 use Rattle.mask_cells.specs.MaskCells.{isMarked, those, markedCells, longestRuns}
 use Rattle.mask_cells.specs.MaskLaws.{RunsCells}
 use Rattle.mask_cells.specs.private.Positions.{cellsOn}

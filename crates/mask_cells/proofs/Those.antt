@@ -1,10 +1,12 @@
--- Which cells of a list a test keeps: none where it fails everywhere, all where it holds everywhere, and the same of two lists as of each.
+-- Which cells of a list a test keeps: none where it fails everywhere, all where it holds everywhere, and the same of two lists as of each; never more than there are.
 use mathlib.Core.Path.{_≡_, refl, ap, ap₂, _∙_}
 use mathlib.Core.Bool.{Bool, true, false, cond}
 use mathlib.Core.List.{List, [], _∷_, _++_}
 use Prim.Native.Nat.{ℕ, zero, suc, _+_, _-_, _≤_, _<_}
 use native.Mathlib.Omega.{arith}
-use Rattle.cells.specs.CellSums.{Cell}
+use lib.ListN.{length}
+use Rattle.outline.proofs.Every.{All}
+use Rattle.cell_ground.specs.CellSums.{Cell}
 use Rattle.mask_cells.specs.MaskCells.{those}
 use Rattle.mask_cells.specs.private.Positions.{cellOf, cellsOn}
 use Rattle.mask_cells.proofs.Positions.{cells-append}
@@ -51,6 +53,33 @@ module _ (p : Cell → Bool) where
   taken s e end h k all =
       let parts : end - s ≡ (e - s) + (end - e) = omega arith in
       ap (λ n. those p (cellsOn s n)) parts ∙ in-parts s (e - s) (end - e) e (omega arith) ∙ ap (λ cs. cs ++ those p (cellsOn e (end - e))) (those-all s (e - s) all)
+
+  -- ---- of cells at n positions from g on
+
+  pub few-those : (g n : ℕ) → length (those p (cellsOn g n)) ≤ n
+  unfolding those cellsOn
+  few-those g zero = omega arith
+  few-those g (suc n) = go (p (cellOf g)) (few-those (suc g) n)
+    where
+      rest : List Cell
+      rest = those p (cellsOn (suc g) n)
+
+      go : (b : Bool) → length rest ≤ n → length (cond b (cellOf g ∷ rest) rest) ≤ suc n
+      go true h = omega arith
+      go false h = omega arith
+
+  -- What holds at each of the positions holds of the cells that are kept.
+  pub those-have : (P : Cell → Type 0) (g n : ℕ) → ((k : ℕ) → g ≤ k → k < g + n → P (cellOf k)) → All P (those p (cellsOn g n))
+  unfolding those cellsOn
+  those-have P g zero h = tt
+  those-have P g (suc n) h = go (p (cellOf g)) (those-have P (suc g) n (λ k l m. h k (omega arith) (omega arith)))
+    where
+      rest : List Cell
+      rest = those p (cellsOn (suc g) n)
+
+      go : (b : Bool) → All P rest → All P (cond b (cellOf g ∷ rest) rest)
+      go true all = (h g (omega arith) (omega arith), all)
+      go false all = all
 
 -- Two tests that agree at each of the positions keep the same cells.
 pub same-those : (p q : Cell → Bool) (g n : ℕ) → ((k : ℕ) → g ≤ k → k < g + n → p (cellOf k) ≡ q (cellOf k)) → those p (cellsOn g n) ≡ those q (cellsOn g n)

@@ -1,4 +1,4 @@
--- The marked cells of a mask, word by word: each word's, run by run, and how many they are.
+-- The marked cells of a mask, word by word: each word's, run by run, and how many they are; and from one position up to another.
 use mathlib.Core.Path.{_≡_, refl, sym, ap, ap₂, _∙_}
 use mathlib.Core.Bool.{true, false, cond}
 use mathlib.Core.List.{List, [], _∷_, _++_}
@@ -6,14 +6,14 @@ use Prim.Native.Nat.{ℕ, zero, suc, _+_, _-_, _*_, _/_, _%_, _≤_, _<_}
 use native.Mathlib.Numerals.{add-one}
 use native.Mathlib.Omega.{arith}
 use lib.Dec.{eqb}
-use lib.IntN.{pos, _+ℤ_}
 use lib.ListN.{length, getD, length-append}
 use Rattle.word_runs.specs.Bits.{bit, onesBelow}
 use Rattle.word_runs.proofs.Ones.{bit-below}
-use Rattle.cells.specs.CellSums.{Cell, cellsFrom, sumsOver}
+use Rattle.cell_ground.specs.CellSums.{Cell}
+use Rattle.cells.specs.RunCells.{cellsFrom}
 use Rattle.mask_cells.specs.MaskCells.{isMarked, those, markedCells}
 use Rattle.mask_cells.specs.private.Positions.{cellOf, cellsOn}
-use Rattle.mask_cells.specs.private.WordCells.{markedIn, wordCells}
+use Rattle.mask_cells.specs.private.WordCells.{markedIn, wordCells, markedBetween}
 use Rattle.mask_cells.proofs.Positions.{grid-cells, marked-at, row-cells}
 use Rattle.mask_cells.proofs.Those.{Throughout, in-parts, those-none, those-all, same-those}
 
@@ -88,14 +88,6 @@ counted w k (suc n) h =
     ∙ length-append (wordCells w k n) last
     ∙ ap₂ _+_ (counted w k n (omega arith)) (length-of-bit (bit w n) (bit-below w n) (cellOf (64 * k + n)))
 
--- The first of the sums over cells is how many they are.
-pub count-cells : (cs : List Cell) → sumsOver cs .count ≡ pos (length cs)
-unfolding sumsOver
-count-cells [] = refl
-count-cells (c ∷ cs) =
-    let more : 1 + length cs ≡ suc (length cs) = omega arith in
-    ap (λ z. pos 1 +ℤ z) (count-cells cs) ∙ ap pos more
-
 -- ---- the words of a mask
 
 -- The cells of a word of the mask are marked where its bits are set.
@@ -113,20 +105,24 @@ word-cells ws k = same-those (isMarked ws) (markedIn (getD ws k 0)) (64 * k) 64 
         ∙ sym (marked-place (getD ws k 0) k (p - 64 * k) (omega arith))
         ∙ ap (λ g. markedIn (getD ws k 0) (cellOf g)) same
 
--- The marked cells of the first k words.
-abbrev pub firstWords : List ℕ → ℕ → List Cell
-firstWords ws k = those (isMarked ws) (cellsOn 0 (64 * k))
+-- From one position up to another, in two parts.
+pub in-two : (ws : List ℕ) (g s e : ℕ) → g ≤ s → s ≤ e → markedBetween ws g e ≡ markedBetween ws g s ++ markedBetween ws s e
+unfolding markedBetween
+in-two ws g s e h l =
+    let parts : e - g ≡ (s - g) + (e - s) = omega arith in
+    ap (λ n. those (isMarked ws) (cellsOn g n)) parts ∙ in-parts (isMarked ws) g (s - g) (e - s) s (omega arith)
 
-pub word-more : (ws : List ℕ) (k : ℕ) → firstWords ws (k + 1) ≡ firstWords ws k ++ wordCells (getD ws k 0) k 64
-word-more ws k =
-    let more : 64 * (k + 1) ≡ 64 * k + 64 = omega arith in
-    ap (λ n. those (isMarked ws) (cellsOn 0 n)) more
-    ∙ in-parts (isMarked ws) 0 (64 * k) 64 (64 * k) (omega arith)
-    ∙ ap (λ cs. firstWords ws k ++ cs) (word-cells ws k)
+-- One word more.
+pub word-more : (ws : List ℕ) (g k : ℕ) → g ≤ 64 * k → markedBetween ws g (64 * (k + 1)) ≡ markedBetween ws g (64 * k) ++ wordCells (getD ws k 0) k 64
+unfolding markedBetween
+word-more ws g k h =
+    let bits : 64 * (k + 1) - 64 * k ≡ 64 = omega arith in
+    in-two ws g (64 * k) (64 * (k + 1)) h (omega arith)
+    ∙ ap (λ cs. markedBetween ws g (64 * k) ++ cs) (ap (λ n. those (isMarked ws) (cellsOn (64 * k) n)) bits ∙ word-cells ws k)
 
--- All of a mask of whole rows.
-pub all-words : (ws : List ℕ) → length ws % 16 ≡ 0 → markedCells ws ≡ firstWords ws (length ws)
-unfolding markedCells
-all-words ws h =
-    let all : 1024 * (length ws / 16) ≡ 64 * length ws = omega arith in
+-- All rows.
+pub all-rows : (ws : List ℕ) → markedCells ws ≡ markedBetween ws 0 (1024 * (length ws / 16))
+unfolding markedCells markedBetween
+all-rows ws =
+    let all : 1024 * (length ws / 16) ≡ 1024 * (length ws / 16) - 0 = omega arith in
     ap (those (isMarked ws)) (grid-cells ws) ∙ ap (λ n. those (isMarked ws) (cellsOn 0 n)) all

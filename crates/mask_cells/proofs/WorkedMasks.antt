@@ -1,15 +1,17 @@
--- Masks worked by hand: their marked cells, runs, sums and what the writer leaves, by computation from the definitions.
+-- Masks worked by hand: their marked cells, runs, totals and what the writer leaves, by computation from the definitions.
 use Prim.Native.Nat.{ℕ, _+_}
 use mathlib.Core.Path.{_≡_, refl}
 use mathlib.Core.List.{List, [], _∷_, _++_}
 use lib.IntN.{pos}
 use lib.ListN.{length, replicate}
 use Rattle.word_runs.specs.Bits.{firstWhere}
+use Rattle.cell_ground.specs.CellSums.{sumsOver}
+use Rattle.cell_ground.specs.Ground.{groundOf}
 use Rattle.cells.specs.declared.Run.{Run}
-use Rattle.cells.specs.CellSums.{cellsFrom, sumsOver}
+use Rattle.cells.specs.RunCells.{cellsFrom}
 use Rattle.cells.specs.RegionCall.{tooMany}
 use Rattle.mask_cells.specs.MaskCells.{isMarked, rowsFrom, those, markedCells, beginsRun, endColumn, longestRuns}
-use Rattle.mask_cells.specs.MaskCalls.{wrongLength, maskSumsCall, tooManyFor, maskRunsCall}
+use Rattle.mask_cells.specs.MaskCalls.{wrongLength, maskTotalsCall, tooManyFor, maskRunsCall}
 
 abbrev pub run : ℕ → ℕ → ℕ → Run
 run y x n = record { row = y; first = x; length = n }
@@ -30,7 +32,7 @@ old k = run (100 + k) 5 6
 
 pub record Corners : Type 0 where
   pub runs : longestRuns corners ≡ cornerRuns
-  pub sums : maskSumsCall corners ≡ record { number = 0; sums = record { count = pos 6; x = pos 1215; y = pos 1; xx = pos 1_058_819; xy = pos 0; yy = pos 1 } }
+  pub totals : maskTotalsCall corners ≡ record { number = 0; totals = record { a2 = pos 12; x6 = pos 7308; y6 = pos 24; xx12 = pos 12_720_432; xy24 = pos 14_628; yy12 = pos 48 } }
   -- the writer, into a list longer by two, as long, shorter by one, and empty
   pub longer : maskRunsCall corners (old 0 ∷ old 1 ∷ old 2 ∷ old 3 ∷ old 4 ∷ old 5 ∷ []) ≡ record { number = 0; index = 0; count = 4; list = cornerRuns ++ old 4 ∷ old 5 ∷ [] }
   pub as-long : maskRunsCall corners (old 0 ∷ old 1 ∷ old 2 ∷ old 3 ∷ []) ≡ record { number = 0; index = 0; count = 4; list = cornerRuns }
@@ -38,8 +40,8 @@ pub record Corners : Type 0 where
   pub none : maskRunsCall corners [] ≡ record { number = 8; index = 0; count = 0; list = [] }
 
 pub worked-corners : Corners
-unfolding firstWhere cellsFrom sumsOver tooMany isMarked rowsFrom those markedCells beginsRun endColumn longestRuns wrongLength maskSumsCall tooManyFor maskRunsCall
-worked-corners = record { runs = refl; sums = refl; longer = refl; as-long = refl; shorter = refl; none = refl }
+unfolding firstWhere cellsFrom sumsOver groundOf tooMany isMarked rowsFrom those markedCells beginsRun endColumn longestRuns wrongLength maskTotalsCall tooManyFor maskRunsCall
+worked-corners = record { runs = refl; totals = refl; longer = refl; as-long = refl; shorter = refl; none = refl }
 
 -- ---- other masks
 
@@ -48,17 +50,17 @@ full = 0xffff_ffff_ffff_ffff
 
 record Others : Type 0 where
   -- no rows: no cells
-  no-rows : maskSumsCall [] ≡ record { number = 0; sums = record { count = pos 0; x = pos 0; y = pos 0; xx = pos 0; xy = pos 0; yy = pos 0 } }
+  no-rows : maskTotalsCall [] ≡ record { number = 0; totals = record { a2 = pos 0; x6 = pos 0; y6 = pos 0; xx12 = pos 0; xy24 = pos 0; yy12 = pos 0 } }
   no-runs : maskRunsCall [] (old 0 ∷ []) ≡ record { number = 0; index = 0; count = 0; list = old 0 ∷ [] }
   -- two full rows are two runs
   full-rows : longestRuns (replicate 32 full) ≡ run 0 0 1024 ∷ run 1 0 1024 ∷ []
   -- a full word in the second row, and on either side of it a clear bit and a set one
   full-word : longestRuns (replicate 20 0 ++ 0x4000_0000_0000_0000 ∷ full ∷ 2 ∷ replicate 9 0) ≡ run 1 318 1 ∷ run 1 320 64 ∷ run 1 385 1 ∷ []
   -- a cell at (1, 2): x is the column, y the row
-  one-cell : maskSumsCall (replicate 32 0 ++ 2 ∷ replicate 15 0) ≡ record { number = 0; sums = record { count = pos 1; x = pos 1; y = pos 2; xx = pos 1; xy = pos 2; yy = pos 4 } }
+  one-cell : maskTotalsCall (replicate 32 0 ++ 2 ∷ replicate 15 0) ≡ record { number = 0; totals = record { a2 = pos 2; x6 = pos 9; y6 = pos 15; xx12 = pos 28; xy24 = pos 90; yy12 = pos 76 } }
   -- bits 0, 2 and 3, and 60 to 63
   lowest-first : longestRuns (0xf000_0000_0000_000d ∷ replicate 15 0) ≡ run 0 0 1 ∷ run 0 2 2 ∷ run 0 60 4 ∷ []
 
 worked-others : Others
-unfolding firstWhere cellsFrom sumsOver tooMany isMarked rowsFrom those markedCells beginsRun endColumn longestRuns wrongLength maskSumsCall tooManyFor maskRunsCall
+unfolding firstWhere cellsFrom sumsOver groundOf tooMany isMarked rowsFrom those markedCells beginsRun endColumn longestRuns wrongLength maskTotalsCall tooManyFor maskRunsCall
 worked-others = record { no-rows = refl; no-runs = refl; full-rows = refl; full-word = refl; one-cell = refl; lowest-first = refl }

@@ -1,4 +1,4 @@
--- Where the writer is not refused, the runs that it writes make up the mask: the call on runs accepts them, with the mask's own sums.
+-- Where the writer is not refused, the runs that it writes make up the mask: the call on runs accepts them, with the mask's own totals.
 use mathlib.Core.Path.{_≡_, refl, ap, _∙_}
 use mathlib.Core.Bool.{Bool, true, false, cond}
 use mathlib.Core.List.{List, _++_}
@@ -9,11 +9,12 @@ use lib.ListN.{length, drop, length-append, length-drop}
 use lib.Seq.{take-append-seam}
 use borrow.Author.Tests.{ltb-false}
 use Rattle.integers.proofs.Flags.{both-failed}
+use Rattle.outline.specs.ListCall.{accepted}
+use Rattle.cell_ground.specs.Ground.{groundOf}
 use Rattle.cells.specs.declared.Run.{Run}
-use Rattle.cells.specs.CellSums.{sumsOver}
 use Rattle.cells.specs.RegionCall.{tooMany, regionCall}
 use Rattle.mask_cells.specs.MaskCells.{markedCells, longestRuns}
-use Rattle.mask_cells.specs.MaskCalls.{wrongLength, maskSumsCall, MaskRunsOutcome, nothingWritten, tooManyFor, maskRunsCall}
+use Rattle.mask_cells.specs.MaskCalls.{wrongLength, maskTotalsCall, MaskRunsOutcome, nothingWritten, tooManyFor, maskRunsCall}
 use Rattle.mask_cells.specs.MaskLaws.{WrittenRegion}
 use Rattle.mask_cells.proofs.RunsAccepted.{runs-accepted}
 
@@ -35,9 +36,9 @@ all-written : (ws : List ℕ) (before : List Run) → wrongLength (length ws) �
 unfolding maskRunsCall
 all-written ws before right few = rw (right, few)
 
-sums-given : (ws : List ℕ) → wrongLength (length ws) ≡ false → maskSumsCall ws ≡ record { number = 0; sums = sumsOver (markedCells ws) }
-unfolding maskSumsCall
-sums-given ws right = rw right
+totals-given : (ws : List ℕ) → wrongLength (length ws) ≡ false → maskTotalsCall ws ≡ accepted (groundOf (markedCells ws))
+unfolding maskTotalsCall
+totals-given ws right = rw right
 
 pub written-region : WrittenRegion
 unfolding tooManyFor
@@ -48,12 +49,12 @@ written-region ws before e =
     let rs = longestRuns ws in
     let rest = drop (length rs) before in
     let call = all-written ws before right few in
-    let given = sums-given ws right in
+    let given = totals-given ws right in
     record {
       count = rw call;
       list = rw call;
       as-long = rw call (length-append rs rest ∙ ap (λ n. length rs + n) (length-drop (length rs) before) ∙ omega arith);
       runs = rw call (take-append-seam rs rest);
-      sums = λ i. rw (call, given) (ap (λ qs. regionCall qs i) (take-append-seam rs rest) ∙ runs-accepted ws right enough i);
+      totals = λ i. rw (call, given) (ap (λ qs. regionCall qs i) (take-append-seam rs rest) ∙ runs-accepted ws right enough i);
       mask-accepted = rw given;
     }

@@ -1,12 +1,12 @@
--- Document 02, CR 1: the outcomes of the two calls on a mask, its sums and the writer of its longest runs.
+-- Document 02, CR 1 and CR 2: the outcomes of the two calls on a mask, its totals and the writer of its longest runs.
 use Prim.Native.Nat.{ℕ, _/_, _%_}
 use mathlib.Core.Bool.{Bool, not, _||_, cond}
 use mathlib.Core.List.{List, _++_}
 use lib.Dec.{ltb, eqb}
 use lib.ListN.{length, drop}
-use Rattle.centroid.specs.declared.CellSums.{CellSums}
+use Rattle.outline.specs.ListCall.{Outcome, accepted, refused}
+use Rattle.cell_ground.specs.Ground.{groundOf}
 use Rattle.cells.specs.declared.Run.{Run}
-use Rattle.cells.specs.CellSums.{zeros, sumsOver}
 use Rattle.cells.specs.RegionCall.{tooMany}
 use Rattle.mask_cells.specs.MaskCells.{markedCells, longestRuns}
 
@@ -14,15 +14,11 @@ use Rattle.mask_cells.specs.MaskCells.{markedCells, longestRuns}
 unfoldable pub wrongLength : ℕ → Bool
 wrongLength n = not (eqb (n % 16) 0) || ltb 1024 (n / 16)
 
--- ---- the sums
+-- ---- the totals
 
--- Number 0 with the sums where the call is accepted, else the number of its refusal and zeros.
-pub record MaskSumsOutcome : Type 0 where
-  pub number : ℕ
-  pub sums : CellSums
-
-unfoldable pub maskSumsCall : List ℕ → MaskSumsOutcome
-maskSumsCall ws = cond (wrongLength (length ws)) (record { number = 31; sums = zeros }) (record { number = 0; sums = sumsOver (markedCells ws) })
+-- Those of the ground under the marked cells.
+unfoldable pub maskTotalsCall : List ℕ → Outcome
+maskTotalsCall ws = cond (wrongLength (length ws)) (refused 31) (accepted (groundOf (markedCells ws)))
 
 -- ---- the writer
 

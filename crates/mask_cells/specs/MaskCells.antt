@@ -5,8 +5,9 @@ use mathlib.Core.List.{List, [], _∷_, _++_, map}
 use lib.Dec.{eqb}
 use lib.ListN.{length, getD}
 use Rattle.word_runs.specs.Bits.{bit, firstWhere}
+use Rattle.cell_ground.specs.CellSums.{Cell}
 use Rattle.cells.specs.declared.Run.{Run}
-use Rattle.cells.specs.CellSums.{Cell, cellsFrom}
+use Rattle.cells.specs.RunCells.{cellsFrom}
 
 abbrev pub cellAt : ℕ → ℕ → Cell
 cellAt y x = record { x = x; y = y }

@@ -1,4 +1,4 @@
--- Document 02, CR 1: what holds of the marked cells, of the longest runs and of both calls, for every mask. Each is proved in proofs/.
+-- Document 02, CR 1 and CR 2: what holds of the marked cells, of the longest runs and of both calls, for every mask. Each is proved in proofs/.
 use Prim.Native.Nat.{ℕ, _+_, _-_, _*_, _/_, _%_, _≤_, _<_}
 use mathlib.Core.Path.{_≡_}
 use mathlib.Core.Bool.{true, false}
@@ -8,11 +8,14 @@ use lib.Dec.{eqb}
 use lib.IntN.{pos}
 use lib.ListN.{length, getD, take, drop}
 use Rattle.word_runs.specs.Bits.{bit, onesBelow}
+use Rattle.outline.specs.EdgeSums.{zeros}
+use Rattle.cell_ground.specs.Ground.{groundOf}
+use Rattle.cell_ground.specs.GroundLaws.{TotalsOfGround}
 use Rattle.cells.specs.declared.Run.{Run}
-use Rattle.cells.specs.CellSums.{cellsFrom, allCells, zeros, sumsOver}
+use Rattle.cells.specs.RunCells.{cellsFrom, allCells}
 use Rattle.cells.specs.RegionCall.{tooMany, regionCall, runAt}
 use Rattle.mask_cells.specs.MaskCells.{cellAt, isMarked, those, markedCells, longestRuns}
-use Rattle.mask_cells.specs.MaskCalls.{wrongLength, maskSumsCall, maskRunsCall}
+use Rattle.mask_cells.specs.MaskCalls.{wrongLength, maskTotalsCall, maskRunsCall}
 
 -- ---- the marked cells
 
@@ -117,8 +120,8 @@ RunsAccepted =
     → tooMany (longestRuns ws) ≡ false
     -- and for every index that a refusal could give:
     → (i : ℕ)
-    -- the call on runs accepts the longest runs, and its sums are those over the marked cells.
-    → regionCall (longestRuns ws) i ≡ record { number = 0; index = 0; sums = sumsOver (markedCells ws) }
+    -- the call on runs accepts the longest runs, and its totals are those of the ground under the marked cells.
+    → regionCall (longestRuns ws) i ≡ record { number = 0; index = 0; totals = groundOf (markedCells ws) }
 
 -- What is claimed of an accepted call of the writer, on a list of the caller's.
 pub record Written (ws : List ℕ) (before : List Run) : Type 0 where
@@ -129,10 +132,10 @@ pub record Written (ws : List ℕ) (before : List Run) : Type 0 where
   pub as-long : length (maskRunsCall ws before .list) ≡ length before
   -- The written ones are the longest runs,
   pub runs : take (maskRunsCall ws before .count) (maskRunsCall ws before .list) ≡ longestRuns ws
-  -- the call on runs accepts them, and its sums are those that the call on the mask gives,
-  pub sums : (i : ℕ) → regionCall (take (maskRunsCall ws before .count) (maskRunsCall ws before .list)) i ≡ record { number = 0; index = 0; sums = maskSumsCall ws .sums }
+  -- the call on runs accepts them, and its totals are those that the call on the mask gives,
+  pub totals : (i : ℕ) → regionCall (take (maskRunsCall ws before .count) (maskRunsCall ws before .list)) i ≡ record { number = 0; index = 0; totals = maskTotalsCall ws .totals }
   -- which accepts the mask.
-  pub mask-accepted : maskSumsCall ws .number ≡ 0
+  pub mask-accepted : maskTotalsCall ws .number ≡ 0
 
 abbrev pub WrittenRegion : Type 0
 WrittenRegion =
@@ -147,8 +150,8 @@ WrittenRegion =
 
 -- What is claimed of refused calls.
 pub record RefusedMasks (ws : List ℕ) (before : List Run) : Type 0 where
-  -- The sums are zeros
-  pub sums : maskSumsCall ws .number ≢ 0 → maskSumsCall ws .sums ≡ zeros
+  -- The totals are zeros
+  pub totals : maskTotalsCall ws .number ≢ 0 → maskTotalsCall ws .totals ≡ zeros
   -- and the writer counts no run and leaves the list as it was; the index is 0.
   pub count : maskRunsCall ws before .number ≢ 0 → maskRunsCall ws before .count ≡ 0
   pub list : maskRunsCall ws before .number ≢ 0 → maskRunsCall ws before .list ≡ before
@@ -162,6 +165,17 @@ MaskRefusals =
     (before : List Run)
     -- a refusal comes with zeros and changes nothing.
     → RefusedMasks ws before
+
+-- ---- the ground
+
+abbrev pub MaskGround : Type 0
+MaskGround =
+    -- For every mask
+    (ws : List ℕ)
+    -- whose totals are answered,
+    → maskTotalsCall ws .number ≡ 0
+    -- they are those of the ground under its marked cells, cell by cell; the map call takes them, and there is a centre if there is a cell.
+    → TotalsOfGround (markedCells ws) (maskTotalsCall ws .totals)
 
 -- ---- the ones of words
 
@@ -183,7 +197,7 @@ abbrev pub OnesCounted : Type 0
 OnesCounted =
     -- For every mask
     (ws : List ℕ)
-    -- whose sums are answered,
-    → maskSumsCall ws .number ≡ 0
-    -- the first of the six is the number of its ones.
-    → maskSumsCall ws .sums .count ≡ pos (onesIn ws)
+    -- whose totals are answered,
+    → maskTotalsCall ws .number ≡ 0
+    -- A2 is twice the number of its ones.
+    → maskTotalsCall ws .totals .a2 ≡ pos (2 * onesIn ws)

@@ -6,21 +6,23 @@ use mathlib.Core.List.{List}
 use native.Mathlib.Omega.{arith}
 use lib.IntN.{ℤ}
 use lib.ListN.{length}
-use Rattle.centroid.specs.declared.CellSums.{CellSums}
+use Rattle.outline.specs.declared.Totals.{Totals}
+use Rattle.outline.specs.ListCall.{accepted, refused}
+use Rattle.outline_replies.specs.OutlineReply.{totalsReply}
 use Rattle.cells.specs.declared.Run.{Run}
 use Rattle.mask_cells.specs.MaskCells.{longestRuns}
-use Rattle.mask_cells.specs.MaskCalls.{wrongLength, MaskSumsOutcome, maskSumsCall, nothingWritten, tooManyFor, maskRunsCall}
+use Rattle.mask_cells.specs.MaskCalls.{wrongLength, maskTotalsCall, nothingWritten, tooManyFor, maskRunsCall}
 use Rattle.replies.specs.Reply.{shortBuffer}
 use Rattle.replies.proofs.ShortBuffer.{only-short}
-use Rattle.mask_replies.specs.MaskReply.{maskSumsReply, maskRunsReply}
+use Rattle.mask_replies.specs.MaskReply.{maskRunsReply}
 
-sums-number : (ws : List ℕ) → maskSumsCall ws .number < shortBuffer
-unfolding maskSumsCall
-sums-number ws = by-test (wrongLength (length ws)) _ _
+totals-number : (ws : List ℕ) → maskTotalsCall ws .number < shortBuffer
+unfolding maskTotalsCall
+totals-number ws = by-test (wrongLength (length ws)) _
   where
-    by-test : (wrong : Bool) (s t : CellSums) → cond {A = MaskSumsOutcome} wrong (record { number = 31; sums = s }) (record { number = 0; sums = t }) .number < shortBuffer
-    by-test true s t = omega arith
-    by-test false s t = omega arith
+    by-test : (wrong : Bool) (t : Totals) → cond wrong (refused 31) (accepted t) .number < shortBuffer
+    by-test true t = omega arith
+    by-test false t = omega arith
 
 runs-number : (ws : List ℕ) (before : List Run) → maskRunsCall ws before .number < shortBuffer
 unfolding maskRunsCall
@@ -32,8 +34,8 @@ runs-number ws before = by-tests (wrongLength (length ws)) (tooManyFor before (l
     by-tests false true n after = omega arith
     by-tests false false n after = omega arith
 
-pub mask-sums-short : (ws : List ℕ) (out : List ℤ) → maskSumsReply (maskSumsCall ws) out .number ≡ shortBuffer → length out < 6
-mask-sums-short ws out = only-short (maskSumsCall ws .number) _ out (sums-number ws)
+pub mask-totals-short : (ws : List ℕ) (out : List ℤ) → totalsReply (maskTotalsCall ws) out .number ≡ shortBuffer → length out < 6
+mask-totals-short ws out = only-short (maskTotalsCall ws .number) _ out (totals-number ws)
 
 pub mask-runs-short : (ws : List ℕ) (before : List Run) (out : List ℤ) → maskRunsReply (maskRunsCall ws before) before out .number ≡ shortBuffer → length out < 1
 unfolding maskRunsReply

@@ -3,24 +3,30 @@ use mathlib.Core.Path.{_≡_, refl}
 use mathlib.Core.List.{[], _∷_}
 use lib.IntN.{pos}
 use lib.ListN.{replicate}
+use Rattle.cell_ground.specs.CellSums.{sumsOver}
+use Rattle.cell_ground.specs.Ground.{groundOf}
 use Rattle.cells.specs.declared.Run.{Run}
-use Rattle.cells.specs.CellSums.{zeros}
+use Rattle.cells.specs.RunCells.{cellsFrom}
 use Rattle.cells.specs.RegionCall.{emptyRun}
-use Rattle.mask_cells.specs.MaskCalls.{MaskRunsOutcome}
+use Rattle.mask_cells.specs.MaskCells.{isMarked, rowsFrom, those, markedCells}
+use Rattle.mask_cells.specs.MaskCalls.{wrongLength, maskTotalsCall, MaskRunsOutcome}
 use Rattle.replies.specs.Reply.{reply}
-use Rattle.mask_replies.specs.MaskReply.{maskSumsReply, maskRunsReply}
+use Rattle.outline_replies.specs.OutlineReply.{totalsReply}
+use Rattle.mask_replies.specs.MaskReply.{maskRunsReply}
 
-sums : maskSumsReply (record { number = 0; sums = record { count = pos 1; x = pos 2; y = pos 3; xx = pos 4; xy = pos 5; yy = pos 6 } }) (replicate 7 (pos 9)) ≡ record { number = 0; buffer = pos 1 ∷ pos 2 ∷ pos 3 ∷ pos 4 ∷ pos 5 ∷ pos 6 ∷ pos 9 ∷ [] }
-unfolding reply
-sums = refl
+-- The cell of row 0 and column 1: its totals, from one row of words.
+totals : totalsReply (maskTotalsCall (2 ∷ replicate 15 0)) (replicate 7 (pos 9)) ≡ record { number = 0; buffer = pos 2 ∷ pos 9 ∷ pos 3 ∷ pos 28 ∷ pos 18 ∷ pos 4 ∷ pos 9 ∷ [] }
+unfolding cellsFrom sumsOver groundOf isMarked rowsFrom those markedCells wrongLength maskTotalsCall reply
+totals = refl
 
-refused-sums : maskSumsReply (record { number = 31; sums = zeros }) (replicate 6 (pos 9)) ≡ record { number = 31; buffer = replicate 6 (pos 0) }
-unfolding reply
-refused-sums = refl
+-- One word, which is no whole row.
+refused-totals : totalsReply (maskTotalsCall (2 ∷ [])) (replicate 6 (pos 9)) ≡ record { number = 31; buffer = replicate 6 (pos 0) }
+unfolding wrongLength maskTotalsCall reply
+refused-totals = refl
 
-short-for-sums : maskSumsReply (record { number = 31; sums = zeros }) (replicate 5 (pos 9)) ≡ record { number = 100; buffer = replicate 5 (pos 9) }
-unfolding reply
-short-for-sums = refl
+short-for-totals : totalsReply (maskTotalsCall (2 ∷ [])) (replicate 5 (pos 9)) ≡ record { number = 100; buffer = replicate 5 (pos 9) }
+unfolding wrongLength maskTotalsCall reply
+short-for-totals = refl
 
 -- Cells 3 and 4 of row 2.
 abbrev found : Run

@@ -1,4 +1,5 @@
--- The outcomes of the two calls on a mask as replies: which values stand in the buffer, and in which order, and the caller's list of runs afterwards.
+-- The outcome of the call for the runs of a mask as a reply: the count in the buffer, and the caller's list of runs afterwards. The totals of a mask are told as
+-- those of an outline are (`totalsReply` of `outline_replies`).
 use Prim.Native.Nat.{ℕ, min}
 use mathlib.Core.Bool.{cond}
 use mathlib.Core.List.{List, [], _∷_}
@@ -6,14 +7,8 @@ use lib.Dec.{ltb}
 use lib.IntN.{ℤ, pos}
 use lib.ListN.{length}
 use Rattle.cells.specs.declared.Run.{Run}
-use Rattle.mask_cells.specs.MaskCalls.{MaskSumsOutcome, MaskRunsOutcome}
+use Rattle.mask_cells.specs.MaskCalls.{MaskRunsOutcome}
 use Rattle.replies.specs.Reply.{Reply, reply}
-
--- The number, and the six sums in document 01's order.
-abbrev pub maskSumsReply : MaskSumsOutcome → List ℤ → Reply
-maskSumsReply o buffer =
-    let s = o .sums in
-    reply (o .number) (s .count ∷ s .x ∷ s .y ∷ s .xx ∷ s .xy ∷ s .yy ∷ []) buffer
 
 -- The number, and how many runs were written.
 abbrev pub countReply : MaskRunsOutcome → List ℤ → Reply

@@ -1,22 +1,22 @@
-// The calls on a mask answered as a number and a buffer: 0 or the number of a refusal, with zeros for the sums or the count.
+// The calls on a mask answered as a number and a buffer: 0 or the number of a refusal, with zeros for the totals or the count.
 ghost use mathlib.Core.Path.{_≡_};
 ghost use mathlib.Core.List.{[]};
-ghost use Rattle.mask_cells.specs.MaskCalls.{maskSumsCall};
+ghost use Rattle.mask_cells.specs.MaskCalls.{maskTotalsCall};
 ghost use Rattle.masks.specs.MaskAnswers.{runsReading};
-ghost use Rattle.mask_replies.specs.MaskReply.{maskSumsReply, countReply, countCapped};
+ghost use Rattle.outline_replies.specs.OutlineReply.{totalsReply};
+ghost use Rattle.mask_replies.specs.MaskReply.{countReply, countCapped};
 use integers::lesser;
 use masks::MaskRunsAnswer;
-use masks::mask_sums;
+use masks::mask_totals;
+use outline_replies::put_totals;
 use replies::put_values;
 
-// The call for the sums of a mask: 0 or 31, and the six sums.
-pub fn mask_sums_reply(words: &[u64], out: &mut [i64]) -> u32
-    ensures { λ r. ⌜ record { number = r; buffer = now (out .exit) } ≡ maskSumsReply (maskSumsCall (now (words .entry))) (now (out .entry)) ⌝ }
+// The call for the totals of a mask: 0 or 31, and the six totals.
+pub fn mask_totals_reply(words: &[u64], out: &mut [i64]) -> u32
+    ensures { λ r. ⌜ record { number = r; buffer = now (out .exit) } ≡ totalsReply (maskTotalsCall (now (words .entry))) (now (out .entry)) ⌝ }
 {
-    let answer = mask_sums(words);
-    let s = answer.sums();
-    let values = [s.count, s.x, s.y, s.xx, s.xy, s.yy];
-    put_values(&values, answer.number(), out)
+    let answer = mask_totals(words);
+    put_totals(answer.number(), answer.totals(), out)
 }
 
 // An answer of the call for the runs of a mask: 0, 8 or 31, and how many runs were written. No call writes more than 4,096.

@@ -3,23 +3,24 @@ use mathlib.Core.Path.{_≡_, refl, sym, _∙_, ap}
 use mathlib.Core.Bool.{cond}
 use mathlib.Core.List.{List}
 use lib.Dec.{eqb}
+use Rattle.outline.specs.ListCall.{Outcome}
 use Rattle.cells.specs.declared.Run.{Run}
-use Rattle.mask_cells.specs.MaskCalls.{MaskSumsOutcome, MaskRunsOutcome}
-use Rattle.masks.specs.declared.MaskSumsAnswer.{MaskSumsAnswer}
-use Rattle.masks.specs.declared.MaskSumsAnswer.the-variants as SumsCase
+use Rattle.mask_cells.specs.MaskCalls.{MaskRunsOutcome}
+use Rattle.masks.specs.declared.MaskTotalsAnswer.{MaskTotalsAnswer}
+use Rattle.masks.specs.declared.MaskTotalsAnswer.the-variants as TotalsCase
 use Rattle.masks.specs.declared.MaskRunsAnswer.{MaskRunsAnswer}
 use Rattle.masks.specs.declared.MaskRunsAnswer.the-variants as RunsCase
-use Rattle.masks.specs.MaskAnswers.{sumsReading, runsReading}
+use Rattle.masks.specs.MaskAnswers.{totalsReading, runsReading}
 
-abbrev sumsAnswerFrom : MaskSumsOutcome → MaskSumsAnswer
-sumsAnswerFrom o = cond (eqb (o .number) 0) (SumsCase.Sums (o .sums)) SumsCase.WrongLength
+abbrev totalsAnswerFrom : Outcome → MaskTotalsAnswer
+totalsAnswerFrom o = cond (eqb (o .number) 0) (TotalsCase.Accepted (o .totals)) TotalsCase.WrongLength
 
-sums-told : (a : MaskSumsAnswer) → sumsAnswerFrom (sumsReading a) ≡ a
-sums-told (SumsCase.Sums s) = refl
-sums-told SumsCase.WrongLength = refl
+totals-told : (a : MaskTotalsAnswer) → totalsAnswerFrom (totalsReading a) ≡ a
+totals-told (TotalsCase.Accepted t) = refl
+totals-told TotalsCase.WrongLength = refl
 
-pub sums-one-to-one : (a b : MaskSumsAnswer) → sumsReading a ≡ sumsReading b → a ≡ b
-sums-one-to-one a b e = sym (sums-told a) ∙ ap sumsAnswerFrom e ∙ sums-told b
+pub totals-one-to-one : (a b : MaskTotalsAnswer) → totalsReading a ≡ totalsReading b → a ≡ b
+totals-one-to-one a b e = sym (totals-told a) ∙ ap totalsAnswerFrom e ∙ totals-told b
 
 abbrev runsAnswerFrom : MaskRunsOutcome → MaskRunsAnswer
 runsAnswerFrom o = cond (eqb (o .number) 0) (RunsCase.Written (o .count)) (cond (eqb (o .number) 31) RunsCase.WrongLength RunsCase.TooManyRuns)

@@ -1,4 +1,5 @@
 mod AnswerReadings
+mod Kept
 mod NextRun
 mod RunsLeft
 mod RunsOfWord

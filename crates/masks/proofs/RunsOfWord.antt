@@ -7,21 +7,24 @@ use native.Mathlib.Nat.{mod-lt, zero-div}
 use native.Mathlib.Omega.{arith}
 use borrow.Author.Tests.{eqb-true, eqb-false, eq-eqb, ne-eqb}
 use lib.Dec.{eqb}
-use lib.IntN.{pos, +ℤ-idr}
+use lib.IntN.{+ℤ-idr, +ℤ-assoc}
 use lib.Pow.{pow-pos}
 use Rattle.word_runs.specs.Bits.{bit, firstWhere, firstOf}
 use Rattle.word_runs.proofs.Searches.{found-bounds, found-holds, none-before}
 use Rattle.word_runs.proofs.WordSearch.{within-word}
-use Rattle.centroid.specs.declared.CellSums.{CellSums}
-use Rattle.cells.specs.CellSums.{Cell, cellsFrom, zeros, plus, sumsOver}
+use Rattle.cell_ground.specs.CellSums.{Cell, CellSums, noSums, plusSums, sumsOver}
+use Rattle.cell_ground.proofs.SumLaws.{sums-append}
+use Rattle.cells.specs.RunCells.{cellsFrom}
 use Rattle.cells.proofs.ClosedSums.{run-closed}
-use Rattle.cells.proofs.SumLaws.{sums-append}
 use Rattle.mask_cells.specs.MaskCells.{those}
 use Rattle.mask_cells.specs.private.Positions.{cellsOn}
 use Rattle.mask_cells.specs.private.WordCells.{wordCells}
 use Rattle.mask_cells.proofs.WordCells.{column, span}
-use Rattle.masks.specs.declared.word_sums.ColumnSums.{ColumnSums}
-use Rattle.masks.specs.private.WordSums.{columnsOf, withSpan, wordSums}
+use Rattle.masks.specs.declared.rows.RowSums.{RowSums}
+use Rattle.masks.specs.private.Rows.{withSpan, withColumns, withCells}
+
+columns-assoc : (s : RowSums) (t u : CellSums) → withColumns (withColumns s t) u ≡ withColumns s (plusSums t u)
+columns-assoc s t u = λ i. record { count = s .count; x = +ℤ-assoc (s .x) (t .x) (u .x) i; xx = +ℤ-assoc (s .xx) (t .xx) (u .xx) i }
 
 -- ---- a bit is set or clear
 
@@ -73,14 +76,15 @@ module _ (w k s e : ℕ) (h : s ≤ 64) (found : e ≡ firstOf 0 (64 - s) w s) w
       (λ i l m. absurd (omega arith))
       (λ i l m. set-if-not-clear (bit w i) (bit-below w i) (none-before (λ (j : ℕ). eqb (bit w j) 0) (64 - s) s i l (omega arith)))
 
-  pub with-run : columnsOf (sumsOver (wordCells w k e)) ≡ withSpan (columnsOf (sumsOver (wordCells w k s))) (column k s) (column k e)
-  with-run =
+  pub with-run : (sums : RowSums) → withColumns sums (sumsOver (wordCells w k e)) ≡ withSpan (withColumns sums (sumsOver (wordCells w k s))) (column k s) (column k e)
+  with-run sums =
       let before = sumsOver (wordCells w k s) in
       let last : column k s + (e - s) ≡ column k e = omega (arith, end-from) in
-      ap (λ cs. columnsOf (sumsOver cs)) set-cells
-      ∙ ap columnsOf (sums-append (wordCells w k s) (cellsFrom (k / 16) (column k s) (e - s)))
-      ∙ ap (λ t. columnsOf (plus before t)) (run-closed (k / 16) (column k s) (e - s))
-      ∙ ap (withSpan (columnsOf before) (column k s)) last
+      ap (λ cs. withColumns sums (sumsOver cs)) set-cells
+      ∙ ap (withColumns sums) (sums-append (wordCells w k s) (cellsFrom (k / 16) (column k s) (e - s)))
+      ∙ sym (columns-assoc sums before (sumsOver (cellsFrom (k / 16) (column k s) (e - s))))
+      ∙ ap (withColumns (withColumns sums before)) (run-closed (k / 16) (column k s) (e - s))
+      ∙ ap (withSpan (withColumns sums before) (column k s)) last
 
   pub run-not-empty : s < 64 → eqb (bit w s) 1 ≡ true → s < e
   unfolding firstWhere
@@ -92,37 +96,34 @@ module _ (w k s e : ℕ) (h : s ≤ 64) (found : e ≡ firstOf 0 (64 - s) w s) w
 
 -- ---- the sums so far
 
--- Those below a place, which is the next set bit or 64.
-pub record SumsBelow (w k : ℕ) (sums : ColumnSums) (place : ℕ) : Type 0 where
+-- With those below a place, which is the next set bit or 64.
+pub record SumsBelow (w k : ℕ) (before sums : RowSums) (place : ℕ) : Type 0 where
   pub below : place ≤ 64
   pub set : place < 64 → eqb (bit w place) 1 ≡ true
-  pub columns : sums ≡ columnsOf (sumsOver (wordCells w k place))
+  pub columns : sums ≡ withColumns before (sumsOver (wordCells w k place))
 
-pub at-set-bit : (w k a s : ℕ) (sums : ColumnSums) → a ≤ 64 → s ≡ firstOf 1 (64 - a) w a → sums ≡ columnsOf (sumsOver (wordCells w k a)) → SumsBelow w k sums s
-at-set-bit w k a s sums h found e =
+pub at-set-bit : (w k a s : ℕ) (before sums : RowSums) → a ≤ 64 → s ≡ firstOf 1 (64 - a) w a → sums ≡ withColumns before (sumsOver (wordCells w k a)) → SumsBelow w k before sums s
+at-set-bit w k a s before sums h found e =
     record {
       below = set-below w k a s h found;
       set = set-there w k a s h found;
-      columns = e ∙ ap (λ cs. columnsOf (sumsOver cs)) (sym (clear-cells w k a s h found));
+      columns = e ∙ ap (λ cs. withColumns before (sumsOver cs)) (sym (clear-cells w k a s h found));
     }
 
-no-sums : (w k : ℕ) → sumsOver (wordCells w k 0) ≡ zeros
+no-sums : (w k : ℕ) → sumsOver (wordCells w k 0) ≡ noSums
 unfolding wordCells those cellsOn sumsOver
 no-sums w k = refl
 
-pub no-columns : (w k : ℕ) → record { x = pos 0; xx = pos 0 } ≡ columnsOf (sumsOver (wordCells w k 0))
-no-columns w k = ap columnsOf (sym (no-sums w k))
+pub no-columns : (w k : ℕ) (sums : RowSums) → sums ≡ withColumns sums (sumsOver (wordCells w k 0))
+no-columns w k sums = sym (ap (withColumns sums) (no-sums w k) ∙ (λ i. record { count = sums .count; x = +ℤ-idr (sums .x) i; xx = +ℤ-idr (sums .xx) i }))
 
 -- ---- a word of clear bits
 
 bit-of-zero : (i : ℕ) → bit 0 i ≡ 0
 bit-of-zero i = ap (λ n. n % 2) (zero-div (2 ^ i))
 
-pub zero-word : (w k : ℕ) → w ≡ 0 → wordSums w k ≡ zeros
-zero-word w k e =
-    ap (λ v. wordSums v k) e
-    ∙ ap sumsOver (clear-span 0 k 0 64 (omega arith) (omega arith) (λ i l m. ap (λ b. eqb b 1) (bit-of-zero i)))
-    ∙ no-sums 0 k
-
-pub plus-zeros : (s : CellSums) → plus s zeros ≡ s
-plus-zeros s = simp +ℤ-idr
+pub zero-word : (w k : ℕ) (sums : RowSums) → w ≡ 0 → sums ≡ withCells sums (sumsOver (wordCells w k 64))
+zero-word w k sums e =
+    let none : sumsOver (wordCells w k 64) ≡ noSums =
+    ap (λ v. sumsOver (wordCells v k 64)) e ∙ ap sumsOver (clear-span 0 k 0 64 (omega arith) (omega arith) (λ i l m. ap (λ b. eqb b 1) (bit-of-zero i))) ∙ no-sums 0 k
+    in sym (ap (withCells sums) none ∙ (λ i. record { count = +ℤ-idr (sums .count) i; x = +ℤ-idr (sums .x) i; xx = +ℤ-idr (sums .xx) i }))

@@ -1,51 +1,45 @@
-// Document 02, CR 1: masks of 64-bit words, 16 to a row. `mask_sums` answers the sums of the marked cells, `mask_runs` writes the longest runs. Time goes by
-// the number of words and of runs, not of cells.
+// Document 02, CR 1 and CR 2: masks of 64-bit words, 16 to a row. `mask_totals` answers the totals of the ground under the marked cells, `mask_runs` writes the
+// longest runs. Time goes by the number of words and of runs, not of cells.
 ghost use mathlib.Core.Path.{_≡_};
+ghost use mathlib.Core.Bool.{false};
 ghost use mathlib.Core.List.{[]};
-ghost use Rattle.cells.specs.CellSums.{zeros};
-ghost use Rattle.mask_cells.specs.MaskCalls.{wrongLength, maskSumsCall, maskRunsCall};
-ghost use Rattle.masks.specs.MaskAnswers.{sumsReading, runsReading};
+ghost use Rattle.outline.specs.EdgeSums.{plus, exceed, outlineBounds};
+ghost use Rattle.mask_cells.specs.MaskCalls.{wrongLength, maskTotalsCall, maskRunsCall};
+ghost use Rattle.masks.specs.MaskAnswers.{totalsReading, runsReading};
 ghost use Rattle.masks.specs.private.Scan.{decision};
 
+mod rows;
 mod scan;
-mod word_sums;
 
 use cells::Run;
-use centroid::CellSums;
-use centroid::ZERO_SUMS;
 use integers::lesser;
+use outline::Totals;
+use outline_answers::no_totals;
 
-// The sums over no cell, by the definition's name.
-fn no_sums() -> CellSums
-    ensures { λ r. ⌜ r ≡ zeros ⌝ }
-{
-    ZERO_SUMS
-}
-
-// The sums of the marked cells, or the mask has a wrong length (refusal 31).
-pub enum MaskSumsAnswer {
-    Sums(CellSums),
+// The totals of the ground under the marked cells, or the mask has a wrong length (refusal 31).
+pub enum MaskTotalsAnswer {
+    Accepted(Totals),
     WrongLength,
 }
 
-impl MaskSumsAnswer {
+impl MaskTotalsAnswer {
     // The number of the refusal in document 02, 0 where there is none.
     pub fn number(self) -> u32
-        ensures { λ r. ⌜ r ≡ sumsReading self .number ⌝ }
+        ensures { λ r. ⌜ r ≡ totalsReading self .number ⌝ }
     {
         match self {
-            MaskSumsAnswer::Sums(_) => 0,
-            MaskSumsAnswer::WrongLength => 31,
+            MaskTotalsAnswer::Accepted(_) => 0,
+            MaskTotalsAnswer::WrongLength => 31,
         }
     }
 
     // Zeros with a refusal.
-    pub fn sums(self) -> CellSums
-        ensures { λ r. ⌜ r ≡ sumsReading self .sums ⌝ }
+    pub fn totals(self) -> Totals
+        ensures { λ r. ⌜ r ≡ totalsReading self .totals ⌝ }
     {
         match self {
-            MaskSumsAnswer::Sums(sums) => sums,
-            MaskSumsAnswer::WrongLength => no_sums(),
+            MaskTotalsAnswer::Accepted(totals) => totals,
+            MaskTotalsAnswer::WrongLength => no_totals(),
         }
     }
 }
@@ -97,20 +91,36 @@ fn wrong_length(length: usize) -> bool
     1024 < length / 16
 }
 
-// The six sums of the marked cells.
-pub fn mask_sums(words: &[u64]) -> MaskSumsAnswer
-    ensures { λ r. ⌜ sumsReading r ≡ maskSumsCall (now (words .entry)) ⌝ }
+// Within the bounds every sum fits.
+fn add_totals(s: Totals, t: Totals) -> Totals
+    requires { ⌜ exceed outlineBounds s ≡ false ⌝ }
+    requires { ⌜ exceed outlineBounds t ≡ false ⌝ }
+    ensures { λ r. ⌜ r ≡ plus s t ⌝ }
+{
+    Totals {
+        a2: s.a2 + t.a2,
+        x6: s.x6 + t.x6,
+        y6: s.y6 + t.y6,
+        xx12: s.xx12 + t.xx12,
+        xy24: s.xy24 + t.xy24,
+        yy12: s.yy12 + t.yy12,
+    }
+}
+
+// The six totals of the ground under the marked cells.
+pub fn mask_totals(words: &[u64]) -> MaskTotalsAnswer
+    ensures { λ r. ⌜ totalsReading r ≡ maskTotalsCall (now (words .entry)) ⌝ }
 {
     if wrong_length(words.len()) {
-        return MaskSumsAnswer::WrongLength;
+        return MaskTotalsAnswer::WrongLength;
     }
-    let mut sums = no_sums();
-    let mut k = 0;
-    while k < words.len() {
-        sums = word_sums::add_word(sums, words[k], k);
-        k += 1;
+    let mut totals = no_totals();
+    let mut row = 0;
+    while row < words.len() / 16 {
+        totals = add_totals(totals, rows::totals_of_row(words, row));
+        row += 1;
     }
-    MaskSumsAnswer::Sums(sums)
+    MaskTotalsAnswer::Accepted(totals)
 }
 
 // All runs are counted before the first is written. `held` is how many the caller's list holds.

@@ -1,8 +1,8 @@
 -- The cells of a mask by their position in it: bit i of word k is position 64 k + i, and column x of row y is position 1,024 y + x.
 use Prim.Native.Nat.{ℕ, zero, suc, _+_, _-_, _*_, _/_, _%_}
 use mathlib.Core.List.{List, [], _∷_}
+use Rattle.cell_ground.specs.CellSums.{Cell}
 use Rattle.cells.specs.declared.Run.{Run}
-use Rattle.cells.specs.CellSums.{Cell}
 use Rattle.mask_cells.specs.MaskCells.{cellAt}
 
 abbrev pub cellOf : ℕ → Cell

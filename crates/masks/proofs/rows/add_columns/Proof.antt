@@ -1,26 +1,26 @@
--- `masks::word_sums::columns_of` meets its contract. The invariant: the sums are those of the marked cells below the next set bit.
+-- `masks::rows::add_columns` meets its contract. The invariant: the columns of the marked cells below the next set bit are added.
 use mathlib.Core.Path.{_≡_, sym, ap, ap₂, _∙_, subst}
-use Prim.Native.Nat.{ℕ, _+_, _-_, _*_, _%_, _≤_, _<_, _^_}
+use Prim.Native.Nat.{ℕ, _+_, _-_, _*_, _%_, _≤_, _<_}
 use native.Mathlib.Omega.{arith}
-use lib.IntN.{natAbs}
 use borrow.Author.Needs.{needs}
-use Rattle.cells.specs.CellSums.{sumsOver}
+use Rattle.integers.proofs.Order.{natAbs-add}
+use Rattle.cell_ground.specs.CellSums.{sumsOver}
 use Rattle.mask_cells.specs.private.WordCells.{wordCells}
 use Rattle.mask_cells.proofs.WordCells.{column}
-use Rattle.mask_cells.proofs.RowSums.{word-within}
-use Rattle.masks.specs.private.WordSums.{columnsOf, withSpan}
+use Rattle.mask_cells.proofs.WordGround.{word-within}
+use Rattle.masks.specs.private.Rows.{withSpan, withColumns, RowWithin}
 use Rattle.masks.proofs.RunsOfWord.{SumsBelow, at-set-bit, end-below, run-not-empty, set-from, with-run, no-columns}
-use Rattle.masks.proofs.word_sums.columns_of.Statement.{statement}
-use Rattle.masks.proofs.word_sums.columns_of.Tie as tie
+use Rattle.masks.proofs.rows.add_columns.Statement.{statement}
+use Rattle.masks.proofs.rows.add_columns.Tie as tie
 
 abbrev Inv-loop : tie.InvT-loop
-Inv-loop word k base sums₀ start₀ sums start = SumsBelow word k sums start
+Inv-loop word k base sums start₀ more start = SumsBelow word k sums more start
 
 abbrev μ-loop : tie.MeasureT-loop
-μ-loop word k base sums₀ start₀ sums start = 64 - start
+μ-loop word k base sums start₀ more start = 64 - start
 
 loop-holds : tie.Need-loop-holds Inv-loop μ-loop
-loop-holds c = let s = c .before .args in at-set-bit (s .word) (s .k) 0 (c .first-set .result) _ (omega arith) (c .first-set .ensures) (no-columns (s .word) (s .k))
+loop-holds c = let s = c .before .args in at-set-bit (s .word) (s .k) 0 (c .first-set .result) (s .sums) _ (omega arith) (c .first-set .ensures) (no-columns (s .word) (s .k) (s .sums))
 
 -- ---- one run more
 
@@ -52,14 +52,16 @@ module _ (c : tie.After-first-clear Inv-loop μ-loop) where
 
 add-span-requires : tie.Need-add-span-requires Inv-loop μ-loop
 add-span-requires c κs =
-    let e = here c .loop .inv .columns in
-    let small = word-within (word c) (k c) (start c) (entry c .pre) (here c .loop .inv .below) in
+    let before = entry c .args .sums in
+    let small = word-within (word c) (k c) (start c) (entry c .pre .1) (here c .loop .inv .below) in
+    let sums = sumsOver (wordCells (word c) (k c) (start c)) in
+    let within : RowWithin 2048 (withColumns before sums) =
     record {
-      first = omega (arith, here c .loop .inv .below);
-      end = omega (arith, end-within c);
-      x = subst (λ s. natAbs (s .x) ≤ 2 ^ 26) (sym e) (small .x);
-      xx = subst (λ s. natAbs (s .xx) ≤ 2 ^ 26) (sym e) (small .xx);
+      count = omega (arith, entry c .pre .0 .count);
+      x = omega (arith, entry c .pre .0 .x, small .x, natAbs-add (before .x) (sums .x));
+      xx = omega (arith, entry c .pre .0 .xx, small .xx, natAbs-add (before .xx) (sums .xx));
     }
+    in (subst (RowWithin 2048) (sym (here c .loop .inv .columns)) within, (omega (arith, here c .loop .inv .below), omega (arith, end-within c)))
 
 loop-less : tie.Need-loop-less Inv-loop μ-loop
 loop-less c =
@@ -74,22 +76,23 @@ loop-again : tie.Need-loop-again Inv-loop μ-loop
 loop-again c =
     let found = c .before .before in
     let inv = here found .loop .inv in
-    let sums : c .before .add-span .result ≡ columnsOf (sumsOver (wordCells (word found) (k found) (end found))) =
+    let before = entry found .args .sums in
+    let sums : c .before .add-span .result ≡ withColumns before (sumsOver (wordCells (word found) (k found) (end found))) =
     c .before .add-span .ensures
-    ∙ ap₂ (withSpan (here found .loop .sums)) (base-column found (start found)) (base-column found (end found))
+    ∙ ap₂ (withSpan (here found .loop .more)) (base-column found (start found)) (base-column found (end found))
     ∙ ap (λ s. withSpan s (column (k found) (start found)) (column (k found) (end found))) (inv .columns)
-    ∙ sym (with-run (word found) (k found) (start found) (end found) (inv .below) (found .first-clear .ensures))
-    in at-set-bit (word found) (k found) (end found) (c .first-set2 .result) _ (end-within found) (c .first-set2 .ensures) sums
+    ∙ sym (with-run (word found) (k found) (start found) (end found) (inv .below) (found .first-clear .ensures) before)
+    in at-set-bit (word found) (k found) (end found) (c .first-set2 .result) before _ (end-within found) (c .first-set2 .ensures) sums
 
 returns : tie.Need-returns Inv-loop μ-loop
 returns c =
     let here = c .before in
     let s = here .before .before .args in
     let all : here .loop .start ≡ 64 = omega (arith, here .loop .inv .below) in
-    here .loop .inv .columns ∙ ap (λ n. columnsOf (sumsOver (wordCells (s .word) (s .k) n))) all
+    here .loop .inv .columns ∙ ap (λ n. withColumns (s .sums) (sumsOver (wordCells (s .word) (s .k) n))) all
 
-pub columns-of-spec : {M : Type 1} → statement M
-columns-of-spec =
+pub add-columns-spec : {M : Type 1} → statement M
+add-columns-spec =
     tie.close
     (tie.spec
     Inv-loop

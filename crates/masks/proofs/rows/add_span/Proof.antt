@@ -1,4 +1,4 @@
--- `masks::word_sums::add_span` meets its contract: every step fits.
+-- `masks::rows::add_span` meets its contract: every step fits.
 use mathlib.Core.Path.{_≡_, _∙_}
 use mathlib.Core.List.{List, [], _∷_}
 use Prim.Native.Nat.{_≤_, _^_}
@@ -10,15 +10,16 @@ use borrow.Author.Needs.{needs}
 use Rattle.integers.proofs.SignedCode.{code}
 use Rattle.integers.proofs.SizedNumbers.{i64, Sized, sized, fits, is-plain}
 use Rattle.column_sums.proofs.SumBounds.{index-sized, square-sized}
-use Rattle.masks.proofs.word_sums.add_span.Statement.{statement}
-use Rattle.masks.proofs.word_sums.add_span.Tie as tie
+use Rattle.masks.proofs.Kept.{kept}
+use Rattle.masks.proofs.rows.add_span.Statement.{statement}
+use Rattle.masks.proofs.rows.add_span.Tie as tie
 
 -- A sum, and two others whose difference is added to it.
 record Numbers : Type 0 where
   s : ℤ
   e : ℤ
   a : ℤ
-  s-small : natAbs s ≤ 2 ^ 30
+  s-small : natAbs s ≤ 2 ^ 31
   e-small : natAbs e ≤ 2 ^ 30
   a-small : natAbs a ≤ 2 ^ 30
 
@@ -51,9 +52,9 @@ module _ (c : tie.After-index-sum2) where
         s = start .args .sums .x;
         e = c .before .index-sum .result;
         a = c .index-sum2 .result;
-        s-small = omega (arith, start .pre .x);
-        e-small = omega (arith, index-sized (start .args .end) (start .pre .end) (c .before .index-sum .ensures));
-        a-small = omega (arith, index-sized (start .args .first) (start .pre .first) (c .index-sum2 .ensures));
+        s-small = omega (arith, start .pre .0 .x);
+        e-small = omega (arith, index-sized (start .args .end) (start .pre .1 .1) (c .before .index-sum .ensures));
+        a-small = omega (arith, index-sized (start .args .first) (start .pre .1 .0) (c .index-sum2 .ensures));
       }
 
 module _ (c : tie.After-square-sum2) where
@@ -67,29 +68,29 @@ module _ (c : tie.After-square-sum2) where
         s = start mid .args .sums .xx;
         e = c .before .square-sum .result;
         a = c .square-sum2 .result;
-        s-small = omega (arith, start mid .pre .xx);
-        e-small = square-sized (start mid .args .end) (start mid .pre .end) (c .before .square-sum .ensures);
-        a-small = square-sized (start mid .args .first) (start mid .pre .first) (c .square-sum2 .ensures);
+        s-small = omega (arith, start mid .pre .0 .xx);
+        e-small = omega (arith, square-sized (start mid .args .end) (start mid .pre .1 .1) (c .before .square-sum .ensures));
+        a-small = omega (arith, square-sized (start mid .args .first) (start mid .pre .1 .0) (c .square-sum2 .ensures));
       }
 
 returns : tie.Need-returns
 returns c =
-    let both = c .before .before .before .before in
+    let both = c .before .before .before .before .before in
     let half = mid both in
     let entry = start half in
     let e = half .before .index-sum .ensures in
     let a = half .index-sum2 .ensures in
     let f = both .before .square-sum .ensures in
     let b = both .square-sum2 .ensures in
-    (λ i. record { x = sum-is (indices half) i; xx = sum-is (squares both) i })
-    ∙ (λ i. record { x = entry .args .sums .x +ℤ (e i -ℤ a i); xx = entry .args .sums .xx +ℤ (f i -ℤ b i) })
+    (λ i. record { count = kept (entry .args .sums .count) (omega (arith, entry .pre .0 .count)) i; x = sum-is (indices half) i; xx = sum-is (squares both) i })
+    ∙ (λ i. record { count = entry .args .sums .count; x = entry .args .sums .x +ℤ (e i -ℤ a i); xx = entry .args .sums .xx +ℤ (f i -ℤ b i) })
 
 pub add-span-spec : {M : Type 1} → statement M
 add-span-spec =
     tie.close
     (tie.spec
-    (λ c. record { fits = omega (arith, c .pre .end) })
-    (λ c. record { fits = omega (arith, c .pre .first) })
+    (λ c. record { fits = omega (arith, c .pre .1 .1) })
+    (λ c. record { fits = omega (arith, c .pre .1 .0) })
     (λ c κs. search needs)
     (λ c κs. search needs)
     (λ c. difference-fits (indices c))
