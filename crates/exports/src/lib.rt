@@ -1,15 +1,16 @@
 // Calls for programs in other languages: the static library defines each under its plain name. A number passes as itself, a list or a buffer as a pointer and then a
-// length. Each answers 0 or the number of a refusal, with zeros for totals, centre, sums or count, or 100 where the buffer is too short. Thin: the calls on
-// outlines hand on to outline_replies, and mavrihkel_mask_sums to mask_replies; mavrihkel_region_sums asks cells and has region_replies write the answer,
-// and mavrihkel_mask_runs asks masks and has mask_replies write it.
+// length. Each answers 0 or the number of a refusal, with zeros for totals, centre or count, or 100 where the buffer is too short. Thin: the calls on
+// outlines hand on to outline_replies, and mavrihkel_mask_totals to mask_replies; mavrihkel_region_totals asks cells and has region_replies write the answer,
+// and mavrihkel_mask_runs asks masks and has mask_replies write it. Since document 02, CR 2, cells have the totals of their ground: the names of before,
+// mavrihkel_region_sums and mavrihkel_mask_sums, are not used again, so that an old program fails to link instead of reading other figures.
 ghost use mathlib.Core.Path.{_≡_};
 ghost use Rattle.outline.specs.ListCall.{listCall};
 ghost use Rattle.outline.specs.MapCall.{mapCall};
 ghost use Rattle.centroid.specs.Centroid.{outlineCentroidCall};
 ghost use Rattle.outline_replies.specs.OutlineReply.{totalsReply, centreReply};
 ghost use Rattle.region_replies.specs.RegionReply.{RegionReplies};
-ghost use Rattle.mask_cells.specs.MaskCalls.{maskSumsCall, maskRunsCall};
-ghost use Rattle.mask_replies.specs.MaskReply.{maskSumsReply, maskRunsReply};
+ghost use Rattle.mask_cells.specs.MaskCalls.{maskTotalsCall, maskRunsCall};
+ghost use Rattle.mask_replies.specs.MaskReply.{maskRunsReply};
 use cells::Run;
 use outline::AffineMap;
 use outline::Totals;
@@ -54,7 +55,7 @@ pub extern "C" fn mavrihkel_map_totals(
     outline_replies::map_totals_reply(m, t, out)
 }
 
-// The centre of six outline totals: 0, 11 or 27, and the centre's x and y.
+// The centre of six totals, of an outline, a sheet or cells: 0, 11 or 27, and the centre's x and y.
 #[no_mangle]
 pub extern "C" fn mavrihkel_outline_centroid(
     a2: i64,
@@ -78,21 +79,21 @@ pub extern "C" fn mavrihkel_outline_centroid(
     outline_replies::outline_centroid_reply(t, out)
 }
 
-// The call on a list of runs: 0, 6, 7 or 8, the six sums, and with 6 or 7 the index of a run that breaks it.
+// The call on a list of runs: 0, 6, 7 or 8, the six totals of the ground under its cells, and with 6 or 7 the index of a run that breaks it.
 #[no_mangle]
-pub extern "C" fn mavrihkel_region_sums(runs: &[Run], out: &mut [i64]) -> u32
+pub extern "C" fn mavrihkel_region_totals(runs: &[Run], out: &mut [i64]) -> u32
     ensures { λ r. ⌜ RegionReplies (now (runs .entry)) (now (out .entry)) (record { number = r; buffer = now (out .exit) }) ⌝ }
 {
-    let answer = cells::region_sums(runs);
+    let answer = cells::region_totals(runs);
     region_replies::region_reply(answer, out)
 }
 
-// The call for the sums of a mask: 0 or 31, and the six sums.
+// The call for the totals of a mask: 0 or 31, and the six totals of the ground under its marked cells.
 #[no_mangle]
-pub extern "C" fn mavrihkel_mask_sums(words: &[u64], out: &mut [i64]) -> u32
-    ensures { λ r. ⌜ record { number = r; buffer = now (out .exit) } ≡ maskSumsReply (maskSumsCall (now (words .entry))) (now (out .entry)) ⌝ }
+pub extern "C" fn mavrihkel_mask_totals(words: &[u64], out: &mut [i64]) -> u32
+    ensures { λ r. ⌜ record { number = r; buffer = now (out .exit) } ≡ totalsReply (maskTotalsCall (now (words .entry))) (now (out .entry)) ⌝ }
 {
-    mask_replies::mask_sums_reply(words, out)
+    mask_replies::mask_totals_reply(words, out)
 }
 
 // The call for the runs of a mask, into the caller's list: 0, 8 or 31, and how many runs were written. Where the buffer is too short nothing is written at all.

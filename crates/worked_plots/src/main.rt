@@ -11,13 +11,12 @@ use outline_replies::totals_of_end;
 use outline_replies::totals_of_list;
 use outline_replies::totals_of_map;
 use region_replies::index_of_region;
-use region_replies::sums_of_region;
+use region_replies::totals_of_region;
 use show::end_row;
 use show::show_coordinate;
 use show::show_integer;
 use show::show_label;
 use show::show_natural;
-use show::show_sums;
 use show::show_totals;
 
 // A triangle with a corner at the limit or past it. Asked: its x. Answered: number, six totals.
@@ -72,15 +71,15 @@ fn sheet_row(earlier: u32) {
     end_row();
 }
 
-// One run. Asked: first column, length. Answered: number, index, six sums.
+// One run. Asked: first column, length. Answered: number, index, six totals.
 fn run_row(first: u32, length: u32) {
-    let answer = plots::run_sums(first, length);
+    let answer = plots::run_totals(first, length);
     show_label(b"run");
     show_natural(first as u64);
     show_natural(length as u64);
     show_natural(answer.number() as u64);
     show_natural(index_of_region(answer) as u64);
-    show_sums(sums_of_region(answer));
+    show_totals(totals_of_region(answer));
     end_row();
 }
 

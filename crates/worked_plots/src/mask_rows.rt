@@ -1,4 +1,4 @@
-// Masks of document 02, CR 1, each a row: the sums of the marked cells, and the caller's list once its longest runs are written. Every record of the list is
+// Masks of document 02, each a row: the totals of the ground under the marked cells, and the caller's list once its longest runs are written. Every record of the list is
 // row 7, first column 8, length 9 before.
 ghost use mathlib.Core.Path.{_≡_};
 ghost use Prim.Native.Nat.{_≤_};
@@ -6,10 +6,10 @@ ghost use Rattle.worked_plots.specs.Masks.{fourRuns, oneRunMore};
 use crate::show::end_row;
 use crate::show::show_label;
 use crate::show::show_natural;
-use crate::show::show_sums;
+use crate::show::show_totals;
 use cells::Run;
 use mask_array::mask_runs_of;
-use masks::mask_sums;
+use masks::mask_totals;
 
 const RECORD_BEFORE: Run = Run {
     row: 7,
@@ -77,13 +77,13 @@ fn show_records(runs: [Run; 4097], from: usize, end: usize)
     }
 }
 
-// Asked: words. Answered: number, six sums.
-fn sums_row(words: &[u64]) {
-    let answer = mask_sums(words);
-    show_label(b"mask-sums");
+// Asked: words. Answered: number, six totals.
+fn totals_row(words: &[u64]) {
+    let answer = mask_totals(words);
+    show_label(b"mask-totals");
     show_natural(words.len() as u64);
     show_natural(answer.number() as u64);
-    show_sums(answer.sums());
+    show_totals(answer.totals());
     end_row();
 }
 
@@ -118,18 +118,18 @@ fn last_row(words: &[u64], records: usize)
     written_row(b"mask-last", words, records, records - 2);
 }
 
-fn all_sums_rows() {
+fn all_totals_rows() {
     let four = four_runs();
     let more = one_run_more();
     let full = [ALL_ONES; 16400];
-    sums_row(&four);
-    sums_row(&more[..128]);
-    sums_row(&more);
-    sums_row(&full[..0]);
-    sums_row(&full[..16384]);
-    sums_row(&full[..15]);
-    sums_row(&full[..17]);
-    sums_row(&full);
+    totals_row(&four);
+    totals_row(&more[..128]);
+    totals_row(&more);
+    totals_row(&full[..0]);
+    totals_row(&full[..16384]);
+    totals_row(&full[..15]);
+    totals_row(&full[..17]);
+    totals_row(&full);
 }
 
 fn all_runs_rows() {
@@ -149,6 +149,6 @@ fn all_runs_rows() {
 }
 
 pub(crate) fn mask_rows() {
-    all_sums_rows();
+    all_totals_rows();
     all_runs_rows();
 }

@@ -119,7 +119,7 @@ pub(crate) fn sheet_of_squares(earlier: u32) -> EndReply
 }
 
 // One run, of row 0.
-pub(crate) fn run_sums(first: u32, length: u32) -> RegionAnswer
+pub(crate) fn run_totals(first: u32, length: u32) -> RegionAnswer
     ensures { λ r. ⌜ Answers (runOf first length ∷ []) r ⌝ }
 {
     let run = Run {
@@ -128,7 +128,7 @@ pub(crate) fn run_sums(first: u32, length: u32) -> RegionAnswer
         length,
     };
     let runs = [run; 4097];
-    region_array::region_sums_of(runs, 1)
+    region_array::region_totals_of(runs, 1)
 }
 
 // The end of an open walk of `count` points with this A2, on a new sheet.

@@ -1,5 +1,4 @@
 // A row on standard output: its label, then fields, each after a tab.
-use centroid::CellSums;
 use outline::Totals;
 
 pub(crate) fn show_label(label: &[u8]) {
@@ -31,15 +30,6 @@ pub(crate) fn show_totals(t: Totals) {
     show_integer(t.xx12);
     show_integer(t.xy24);
     show_integer(t.yy12);
-}
-
-pub(crate) fn show_sums(s: CellSums) {
-    show_integer(s.count);
-    show_integer(s.x);
-    show_integer(s.y);
-    show_integer(s.xx);
-    show_integer(s.xy);
-    show_integer(s.yy);
 }
 
 pub(crate) fn end_row() {

@@ -1,14 +1,20 @@
--- Document 01, "Errors a surveyor would not notice": what each error makes of a plot whose right figure stands in specs/Rows, by computation.
+-- Document 01, "Errors a surveyor would not notice", and errors with cells as ground: what each makes of a plot whose right figure stands in specs/Rows, by
+-- computation.
 use Prim.Native.Nat.{ℕ, _+_, _*_, _/_}
 use mathlib.Core.Path.{_≡_, refl}
 use mathlib.Core.Bool.{cond}
-use lib.IntN.{ℤ, pos, negℤ, natAbs}
+use mathlib.Core.List.{List, [], _∷_}
+use lib.IntN.{ℤ, pos, negℤ, natAbs, _+ℤ_, _*ℤ_}
 use lib.Signed.{ltZ}
 use Rattle.outline.specs.EdgeSums.{Term, a2, openEdges, edges, sumOver, over}
 use Rattle.outline.specs.ListCall.{points, numbers, outside, anyOutside, wrongLength, listCall}
 use Rattle.outline.specs.MapCall.{brackets}
 use Rattle.outline.specs.Pieces.{totalsOf}
-use Rattle.worked_rows.specs.Rows.{rectangle, repeatedFirst, triangle, unitSquare, mirror}
+use Rattle.outline.specs.declared.Position.{Position}
+use Rattle.cell_ground.specs.CellSums.{CellSums, sumsOver}
+use Rattle.centroid.specs.Centroid.{isCentre, firstCentre, centre}
+use Rattle.cells.specs.RunCells.{cellsFrom, cellsOf}
+use Rattle.worked_rows.specs.Rows.{rectangle, repeatedFirst, triangle, unitSquare, mirror, shortRun}
 
 -- Halved, and the rest dropped.
 abbrev halved : Term → Term
@@ -48,4 +54,34 @@ mistaken =
       convex = refl;
       away-from-zero = (refl, refl, refl);
       without-d = (refl, refl);
+    }
+
+-- ---- cells, document 02, CR 2
+
+-- The old sums of the run.
+abbrev runSums : CellSums
+runSums = sumsOver (cellsOf shortRun)
+
+-- The rectangle round three cells and one above the first.
+abbrev box : List Position
+box = record { x = pos 0; y = pos 0 } ∷ record { x = pos 3; y = pos 0 } ∷ record { x = pos 3; y = pos 2 } ∷ record { x = pos 0; y = pos 2 } ∷ []
+
+record MistakenGround : Type 0 where
+  -- X6 is 63 and XX12 468: a constant is added for each cell.
+  constant-added-once : (pos 6 *ℤ runSums .x +ℤ pos 3 ≡ pos 57) × (pos 12 *ℤ runSums .xx +ℤ pos 12 *ℤ runSums .x +ℤ pos 4 ≡ pos 460)
+  -- XY24 is 882.
+  six-for-twelve : pos 24 *ℤ runSums .xy +ℤ pos 6 *ℤ runSums .x +ℤ pos 6 *ℤ runSums .y +ℤ pos 6 *ℤ runSums .count ≡ pos 774
+  -- The centre is (4, 4).
+  cells-as-points : (centre (runSums .x) (runSums .count) ≡ pos 3) × (centre (runSums .y) (runSums .count) ≡ pos 3)
+  -- A2 is 8. For one run the error does not show.
+  bounding-box : sumOver a2 (edges box) ≡ pos 12
+
+mistaken-ground : MistakenGround
+unfolding openEdges edges sumOver isCentre firstCentre centre cellsFrom cellsOf sumsOver
+mistaken-ground =
+    record {
+      constant-added-once = (refl, refl);
+      six-for-twelve = refl;
+      cells-as-points = (refl, refl);
+      bounding-box = refl;
     }

@@ -1,5 +1,5 @@
--- Document 01, "Plots worked by hand": the plots marked ✱ as one list of rows, each what is asked and the figures that are answered; and rows for "Errors a
--- surveyor would not notice".
+-- Document 01, "Plots worked by hand": the plots marked ✱ as one list of rows, each what is asked and the figures that are answered, the run's as document 02,
+-- CR 2, has them; and rows for "Errors a surveyor would not notice".
 use Prim.Native.Nat.{ℕ}
 use mathlib.Core.Path.{_≡_}
 use mathlib.Core.List.{List, [], _∷_, _++_, map}
@@ -11,8 +11,7 @@ use Rattle.outline.specs.EdgeSums.{zeros}
 use Rattle.outline.specs.ListCall.{Outcome, accepted, numbers, listCall}
 use Rattle.outline.specs.MapCall.{mapCall}
 use Rattle.outline.specs.Pieces.{Piece, Cut, piecesOf, totalsOf}
-use Rattle.centroid.specs.declared.CellSums.{CellSums}
-use Rattle.centroid.specs.Centroid.{CentroidOutcome, refused, outlineCentroidCall, regionCentroidCall}
+use Rattle.centroid.specs.Centroid.{CentroidOutcome, refused, outlineCentroidCall}
 use Rattle.cells.specs.declared.Run.{Run}
 use Rattle.cells.specs.RegionCall.{RegionOutcome, regionCall}
 
@@ -29,7 +28,7 @@ pub data Row : Type 0 where
   cut : List Position → Cut → List (ℤ × ℤ) → Row
   -- The call on a list of runs.
   region : List Run → RegionOutcome → Row
-  -- The centre of the sums that it answers.
+  -- The centre of the totals that it answers.
   regionCentre : List Run → CentroidOutcome → Row
 
 abbrev areaAndX6 : Piece → ℤ × ℤ
@@ -42,7 +41,7 @@ holds (centre ps answer) = outlineCentroidCall (totalsOf ps) ≡ answer
 holds (mapping m ps answer) = mapCall m (totalsOf ps) ≡ answer
 holds (cut ps c answers) = map areaAndX6 (piecesOf ps (c ∷ [])) ≡ answers
 holds (region rs answer) = (index : ℕ) → regionCall rs index ≡ answer
-holds (regionCentre rs answer) = (index : ℕ) → regionCentroidCall (regionCall rs index .sums) ≡ answer
+holds (regionCentre rs answer) = (index : ℕ) → outlineCentroidCall (regionCall rs index .totals) ≡ answer
 
 -- ---- what is asked
 
@@ -86,8 +85,8 @@ totals a2 x6 y6 xx12 xy24 yy12 = record { a2 = a2; x6 = x6; y6 = y6; xx12 = xx12
 abbrev centreAt : ℤ → ℤ → CentroidOutcome
 centreAt x y = record { number = 0; x = x; y = y }
 
-abbrev regionOf : CellSums → RegionOutcome
-regionOf s = record { number = 0; index = 0; sums = s }
+abbrev regionOf : Totals → RegionOutcome
+regionOf t = record { number = 0; index = 0; totals = t }
 
 -- ---- the rows marked ✱, in document 01's order
 
@@ -104,8 +103,8 @@ rows =
     ∷ cut rectangle diagonal ((pos 40, pos 800) ∷ (pos 40, pos 400) ∷ [])
     ∷ list onePointThrice (accepted zeros)
     ∷ centre onePointThrice (refused 27)
-    ∷ region (shortRun ∷ []) (regionOf (record { count = pos 3; x = pos 9; y = pos 9; xx = pos 29; xy = pos 27; yy = pos 27 }))
-    ∷ regionCentre (shortRun ∷ []) (centreAt (pos 3) (pos 3))
+    ∷ region (shortRun ∷ []) (regionOf (totals (pos 6) (pos 63) (pos 63) (pos 468) (pos 882) (pos 444)))
+    ∷ regionCentre (shortRun ∷ []) (centreAt (pos 4) (pos 4))
     ∷ []
 
 -- ---- rows for the errors that a surveyor would not notice; what each error makes of its plot is in proofs/Errors
@@ -126,10 +125,17 @@ squareAtMinusTwo = at (minus 2) (pos 0) ∷ at (minus 1) (pos 0) ∷ at (minus 1
 abbrev pub mirror : AffineMap
 mirror = record { a = minus 1; b = pos 0; g = pos 0; h = pos 1; e = pos 0; f = pos 0 }
 
+-- Three cells of row 0 and one above the first: not the ground of the rectangle round them.
+abbrev pub corner : List Run
+corner = record { row = 0; first = 0; length = 3 } ∷ record { row = 1; first = 0; length = 1 } ∷ []
+
 abbrev pub errorRows : List Row
 errorRows =
     list repeatedFirst (accepted (totals (pos 80) (pos 1200) (pos 960) (pos 14720) (pos 21120) (pos 8960)))
     ∷ list triangle (accepted (totals (pos 1) (pos 1) (pos 1) (pos 1) (pos 1) (pos 1)))
     ∷ centre squareAtMinusTwo (centreAt (minus 1) (pos 1))
     ∷ mapping mirror unitSquare (accepted (totals (minus 2) (pos 3) (minus 3) (minus 4) (pos 6) (minus 4)))
+    ∷ region corner (regionOf (totals (pos 8) (pos 30) (pos 18) (pos 112) (pos 72) (pos 40)))
+    ∷ regionCentre corner (centreAt (pos 1) (pos 1))
+    ∷ regionCentre [] (refused 27)
     ∷ []

@@ -1,4 +1,4 @@
--- `exports::mavrihkel_region_sums` meets its contract: a walk of its MIR, by hand, since it is lent a list of structs. Both borrows are passed on for good: the runs to `region_sums`, the buffer to `region_reply`.
+-- `exports::mavrihkel_region_totals` meets its contract: a walk of its MIR, by hand, since it is lent a list of structs. Both borrows are passed on for good: the runs to `region_totals`, the buffer to `region_reply`.
 use mathlib.Core.Path.{_≡_, refl, ap, _∙_}
 use Prim.Native.Nat.{ℕ}
 use mathlib.Core.List.{List, [], _∷_}
@@ -42,10 +42,10 @@ use Rattle.cells.specs.RegionCall.{reading, Answers}
 use Rattle.cells.proofs.Run as T
 use Rattle.cells.proofs.RegionAnswer as R
 use Rattle.cells.proofs.RegionAnswer.Laws as R′
-use Rattle.cells.proofs.region_sums as region-sums
-use Rattle.cells.proofs.region_sums.Symbol as region-sums-def
-use Rattle.cells.proofs.region_sums.Symbol.{name as #cells·region-sums}
-use Rattle.cells.proofs.region_sums.Met as region-sums-thm
+use Rattle.cells.proofs.region_totals as region-totals
+use Rattle.cells.proofs.region_totals.Symbol as region-totals-def
+use Rattle.cells.proofs.region_totals.Symbol.{name as #cells·region-totals}
+use Rattle.cells.proofs.region_totals.Met as region-totals-thm
 use Rattle.replies.specs.Reply.{Reply}
 use Rattle.region_replies.specs.RegionReply.{regionReply, RegionReplies, indexCapped}
 use Rattle.region_replies.proofs.IndexLaw.{index-told}
@@ -53,18 +53,18 @@ use Rattle.region_replies.proofs.region_reply as region-reply
 use Rattle.region_replies.proofs.region_reply.Symbol as region-reply-def
 use Rattle.region_replies.proofs.region_reply.Symbol.{name as #region-replies·region-reply}
 use Rattle.region_replies.proofs.region_reply.Met as region-reply-thm
-use Rattle.exports.proofs.mavrihkel_region_sums.Key.{name as #exports·mavrihkel-region-sums}
-use Rattle.exports.proofs.mavrihkel_region_sums as region-call
-use Rattle.exports.proofs.mavrihkel_region_sums.Statement as stated
-use Rattle.exports.proofs.mavrihkel_region_sums.Code as code
+use Rattle.exports.proofs.mavrihkel_region_totals.Key.{name as #exports·mavrihkel-region-totals}
+use Rattle.exports.proofs.mavrihkel_region_totals as region-call
+use Rattle.exports.proofs.mavrihkel_region_totals.Statement as stated
+use Rattle.exports.proofs.mavrihkel_region_totals.Code as code
 
 abbrev stayed : Stays (region-call.ended .signature .params) (region-call.ended .kept)
 stayed = (stay-dropped _ yes, (gave-slice (1 ∷ []) tt (plain (λ _. i64)), tt))
 
 -- the contracts that the proof cites
 module _ {M : Type 1} (𝓤 : URA M) (H : Heap 𝓤) (A : Atoms 𝓤) (mem : Memory → SProp 𝓤) (run : Routine → Fun 𝓤) where
-  abbrev Sums : Contract 𝓤
-  Sums = tripleOf 𝓤 H A region-sums.signature (region-sums.spec 𝓤 H A mem run)
+  abbrev Region : Contract 𝓤
+  Region = tripleOf 𝓤 H A region-totals.signature (region-totals.spec 𝓤 H A mem run)
 
   abbrev Put : Contract 𝓤
   Put = tripleOf 𝓤 H A region-reply.signature (region-reply.spec 𝓤 H A mem run)
@@ -97,16 +97,16 @@ module _ {M : Type 1} (𝓤 : URA M) (H : Heap 𝓤) (A : Atoms 𝓤) (W : Given
   abbrev Token : Lft → Share → Item 𝓤
   Token λ′ p = ‵ (flft λ′ p) ⊛ ‵ ftrue
 
-  abbrev to-sums : Sums 𝓤 H A mem run .Ghost
-  to-sums = (((κ, tt), (q, tt), tt, (x, tt), (v ∷ [], tt)), tt)
+  abbrev to-region : Region 𝓤 H A mem run .Ghost
+  to-region = (((κ, tt), (q, tt), tt, (x, tt), (v ∷ [], tt)), tt)
 
-  goes-sums : ent 𝓤 (sep 𝓤 (A .lft κ q) (sem 𝓤 H A (ShrSlice (named 0) κ T.the-row .own x (v ∷ [])))) (Sums 𝓤 H A mem run .pre to-sums)
-  goes-sums =
+  goes-region : ent 𝓤 (sep 𝓤 (A .lft κ q) (sem 𝓤 H A (ShrSlice (named 0) κ T.the-row .own x (v ∷ [])))) (Region 𝓤 H A mem run .pre to-region)
+  goes-region =
       qed W (‵ (flft κ q) ∷ ‵ (ShrSlice (named 0) κ T.the-row .own x (v ∷ [])) ∷ []) ∵
       nothing ! $ move ! (2 ∷ 0 ∷ []) $ fjoin ! $ nothing ! $ move ! (2 ∷ 0 ∷ []) $ join ! $ join ! $ frame ! $ done !
 
-  told-sums : (r : RegionAnswer) → ent 𝓤 (ensured 𝓤 H A region-sums.ended (region-sums.clauses 𝓤 H A mem run) (κ, tt) (x, tt) tt r) (fact 𝓤 (Answers ys r))
-  told-sums r = exE 𝓤 _ (λ ws. snd∗ 𝓤 (sem 𝓤 H A (lasts region-sums.ended (κ, tt) (x, tt) ws)) (fact 𝓤 (Answers ys r)))
+  told-region : (r : RegionAnswer) → ent 𝓤 (ensured 𝓤 H A region-totals.ended (region-totals.clauses 𝓤 H A mem run) (κ, tt) (x, tt) tt r) (fact 𝓤 (Answers ys r))
+  told-region r = exE 𝓤 _ (λ ws. snd∗ 𝓤 (sem 𝓤 H A (lasts region-totals.ended (κ, tt) (x, tt) ws)) (fact 𝓤 (Answers ys r)))
 
   -- what `region_reply` is passed: the answer and the buffer
   abbrev Passed : RegionAnswer → Val → Fml
@@ -132,18 +132,18 @@ module _ {M : Type 1} (𝓤 : URA M) (H : Heap 𝓤) (A : Atoms 𝓤) (W : Given
       split ! $ move ! (0 ∷ 2 ∷ []) $ join ! $ frame ! $
       nothing ! $ move ! (2 ∷ 0 ∷ []) $ fjoin ! $ move ! (1 ∷ 0 ∷ []) $ fjoin ! $ frame ! $ done !
 
-  module _ (C : Calls 𝓤 H) (Λ : Loops 𝓤 H) (fm : FmC 𝓤 H (W .laws) C) (known-sums : Triple 𝓤 (C #cells·region-sums) (Sums 𝓤 H A mem run)) (known-put : Triple 𝓤 (C #region-replies·region-reply) (Put 𝓤 H A mem run)) where
+  module _ (C : Calls 𝓤 H) (Λ : Loops 𝓤 H) (fm : FmC 𝓤 H (W .laws) C) (known-region : Triple 𝓤 (C #cells·region-totals) (Region 𝓤 H A mem run)) (known-put : Triple 𝓤 (C #region-replies·region-reply) (Put 𝓤 H A mem run)) where
     walk : ent 𝓤 (onEntry 𝓤 H A region-call.signature (κ, (κ′, tt)) (q, (q′, tt)) a vals) (WpFn 𝓤 H C Λ code.function (v ∷ v′ ∷ []) Post)
     walk =
         qed W ((‵ (flft κ q) ⊛ ‵ (flft κ′ q′) ⊛ ‵ ftrue) ∷ ‵ (owns (ShrSlice (named 0) κ T.the-row ∷ MutSlice (named 1) κ′ i64 ∷ []) a vals) ∷ []) ∵ enter ! C Λ code.function (v ∷ v′ ∷ []) _ $
         alloc1 ! (λ l₀. alloc1 ! (λ l₁. alloc1 ! (λ l₂. alloc1 ! (λ l₃. alloc1 ! (λ l₄. alloc1 ! (λ l₅. alloc0 ! $ params1 ! $
         pass1 ! (init ! 8 refl (tt, (tt, (record { fits = room .0 }, tt)))) $ pass1 ! (init ! 6 refl (tt, (tt, (record { fits = room′ .0 }, tt)))) $ pass0 ! $
         -- [_5; …; _4; …; _3; …; _2; …; _1; …; room for _0; …; the tokens; what runs and out own]
-        move ! (13 ∷ []) $ fsplit ! $ move ! (14 ∷ []) $ split ! $ move ! (0 ∷ 2 ∷ []) $ use2 W (raw (Sums 𝓤 H A mem run .pre to-sums)) goes-sums $
+        move ! (13 ∷ []) $ fsplit ! $ move ! (14 ∷ []) $ split ! $ move ! (0 ∷ 2 ∷ []) $ use2 W (raw (Region 𝓤 H A mem run .pre to-region)) goes-region $
         -- [what the call asks; out's token; what out owns; _5; …; _4; …; _3; …; _2; …; _1; …; room for _0; …]
-        calls-at ! fm (Sums 𝓤 H A mem run) known-sums to-sums (and-then ! (load ! (from ! (stop !)) (look ! 11 refl)) (no-more !)) (λ u.
-        use1 W (later (some (λ (r : RegionAnswer). (Token κ q ⊛ ‵ (R.the-row .own r (u ∷ []))) ⊛ raw (ensured 𝓤 H A region-sums.ended (region-sums.clauses 𝓤 H A mem run) (κ, tt) (x, tt) tt r)))) (id⊢ 𝓤 _) $ await ! tt $ pick ! (λ r.
-        split ! $ move ! (1 ∷ []) $ use1 W (raw (fact 𝓤 (Answers ys r))) (told-sums r) $ heard ! (Answers ys r) (λ h. split ! $ move ! (1 ∷ []) $
+        calls-at ! fm (Region 𝓤 H A mem run) known-region to-region (and-then ! (load ! (from ! (stop !)) (look ! 11 refl)) (no-more !)) (λ u.
+        use1 W (later (some (λ (r : RegionAnswer). (Token κ q ⊛ ‵ (R.the-row .own r (u ∷ []))) ⊛ raw (ensured 𝓤 H A region-totals.ended (region-totals.clauses 𝓤 H A mem run) (κ, tt) (x, tt) tt r)))) (id⊢ 𝓤 _) $ await ! tt $ pick ! (λ r.
+        split ! $ move ! (1 ∷ []) $ use1 W (raw (fact 𝓤 (Answers ys r))) (told-region r) $ heard ! (Answers ys r) (λ h. split ! $ move ! (1 ∷ []) $
         peeks ! R.the-row (Is R.the-row) (shows 𝓤 H A R.the-row) r (u ∷ []) (λ is.
         -- [what the answer owns; runs' token; out's token; what out owns; _5; …; _4; …; _3; …; _2; …; _1; …; room for _0; …]
         land ! (from ! (stop !)) (init ! 8 refl (EL.lawful R.the-type R′.the-laws 𝓤 H A W tt .typed r _ is .0)) $
@@ -163,12 +163,12 @@ module _ {M : Type 1} (𝓤 : URA M) (H : Heap 𝓤) (A : Atoms 𝓤) (W : Given
         move ! (16 ∷ 17 ∷ []) $ free1 ! $ move ! (14 ∷ 15 ∷ []) $ free1 ! $ move ! (12 ∷ 13 ∷ []) $ free1 ! $ move ! (10 ∷ 11 ∷ []) $ free1 ! $ move ! (8 ∷ 9 ∷ []) $ free1 ! $ move ! (6 ∷ 7 ∷ []) $ free1 ! $ free0 ! $
         keep ! (5 ∷ 1 ∷ 2 ∷ 0 ∷ []) $ by ! (exits number w (last .1 .0) (record { answer = r; allowed = h; told = e ∙ ap (λ o. regionReply o zs) (index-told ys r h) }) l)))))))))))))))))
 
-module _ {M : Type 1} (𝓤 : URA M) (H : Heap 𝓤) (A : Atoms 𝓤) (W : Given 𝓤 H A) (mem : Memory → SProp 𝓤) (run : Routine → Fun 𝓤) (𝓣 : Tables 𝓤 H) (known-sums : Triple 𝓤 (𝓣 .C #cells·region-sums) (Sums 𝓤 H A mem run)) (known-put : Triple 𝓤 (𝓣 .C #region-replies·region-reply) (Put 𝓤 H A mem run)) where
+module _ {M : Type 1} (𝓤 : URA M) (H : Heap 𝓤) (A : Atoms 𝓤) (W : Given 𝓤 H A) (mem : Memory → SProp 𝓤) (run : Routine → Fun 𝓤) (𝓣 : Tables 𝓤 H) (known-region : Triple 𝓤 (𝓣 .C #cells·region-totals) (Region 𝓤 H A mem run)) (known-put : Triple 𝓤 (𝓣 .C #region-replies·region-reply) (Put 𝓤 H A mem run)) where
   region-call-walks : Walks 𝓤 H A region-call.ended stayed (WpFn 𝓤 H (𝓣 .C) (𝓣 .Λ) code.function) (region-call.clauses 𝓤 H A mem run)
   region-call-walks = walked 𝓤 H A region-call.ended stayed (region-call.clauses 𝓤 H A mem run) (WpFn 𝓤 H (𝓣 .C) (𝓣 .Λ) code.function)
       (λ κs. (slice-vals, (slice-vals, tt))) (λ κs. (shr-slice-tells (named 0) (κs .0) T.the-row, (mut-slice-tells (named 1) (κs .1 .0) i64, tt)))
       (λ κs qs bounds a _ are. via 𝓤 _ (fst∗ 𝓤 _ (emp 𝓤)) (walk 𝓤 H A W mem run (κs .0) (κs .1 .0) (qs .0) (qs .1 .0) (a .0 .ptr .0) (a .0 .ptr .1) (a .0 .name) (a .0 .now) (a .1 .0 .ptr .0) (a .1 .0 .ptr .1) (a .1 .0 .name) (a .1 .0 .now)
-      (are .0 .0 .1) (are .1 .0 .0 .1) (𝓣 .C) (𝓣 .Λ) (fmOf 𝓤 H (W .laws) 𝓣) known-sums known-put))
+      (are .0 .0 .1) (are .1 .0 .0 .1) (𝓣 .C) (𝓣 .Λ) (fmOf 𝓤 H (W .laws) 𝓣) known-region known-put))
 
   goes : AllGo 𝓤 H A W 2 (region-call.signature .params) (region-call.ended .kept) stayed
   goes = (goes-dropped 𝓤 H A W 2 (shrSliceOf (0 ∷ []) tt (plain (λ _. T.the-row))) yes (λ κs x f. refl), (goes-gave-slice 𝓤 H A W 2 1 tt (plain (λ _. i64)), tt))
@@ -176,11 +176,11 @@ module _ {M : Type 1} (𝓤 : URA M) (H : Heap 𝓤) (A : Atoms 𝓤) (W : Given
   region-call-meets : Meets 𝓤 H A region-call.signature (WpFn 𝓤 H (𝓣 .C) (𝓣 .Λ) code.function) (region-call.spec 𝓤 H A mem run)
   region-call-meets = walk-meets 𝓤 H A region-call.ended stayed W goes (region-call.clauses 𝓤 H A mem run) (WpFn 𝓤 H (𝓣 .C) (𝓣 .Λ) code.function) (WpFn-mono 𝓤 H (W .laws) 𝓣 code.function) region-call-walks
 
-pub mavrihkel-region-sums-spec : {M : Type 1} → stated.statement M
+pub mavrihkel-region-totals-spec : {M : Type 1} → stated.statement M
 unfolding code.routine tablesOf
-mavrihkel-region-sums-spec 𝓤 H 𝓜 𝓖 𝓡 =
+mavrihkel-region-totals-spec 𝓤 H 𝓜 𝓖 𝓡 =
     entered 𝓤 H (tripleOf 𝓤 H (𝓖 .A) region-call.signature (region-call.spec 𝓤 H (𝓖 .A) (𝓜 .mem) (𝓡 .run)))
-    (tables 𝓤 H 𝓜 𝓡 code.env .C) (tables 𝓤 H 𝓜 𝓡 code.env .Λ) #exports·mavrihkel-region-sums code.function (code.unfolded 𝓤 H 𝓜 𝓡)
+    (tables 𝓤 H 𝓜 𝓡 code.env .C) (tables 𝓤 H 𝓜 𝓡 code.env .Λ) #exports·mavrihkel-region-totals code.function (code.unfolded 𝓤 H 𝓜 𝓡)
     (region-call-meets 𝓤 H (𝓖 .A) (givenOf 𝓤 H 𝓜 𝓖) (𝓜 .mem) (𝓡 .run) (tablesOf 𝓤 H 𝓜 (tables 𝓤 H 𝓜 𝓡 code.env))
-    (cited 𝓤 H (Sums 𝓤 H (𝓖 .A) (𝓜 .mem) (𝓡 .run)) 𝓜 𝓡 code.env #cells·region-sums region-sums-def.routine code.calls-cells·region-sums (region-sums-thm.met 𝓤 H 𝓜 𝓖 𝓡))
+    (cited 𝓤 H (Region 𝓤 H (𝓖 .A) (𝓜 .mem) (𝓡 .run)) 𝓜 𝓡 code.env #cells·region-totals region-totals-def.routine code.calls-cells·region-totals (region-totals-thm.met 𝓤 H 𝓜 𝓖 𝓡))
     (cited 𝓤 H (Put 𝓤 H (𝓖 .A) (𝓜 .mem) (𝓡 .run)) 𝓜 𝓡 code.env #region-replies·region-reply region-reply-def.routine code.calls-region-replies·region-reply (region-reply-thm.met 𝓤 H 𝓜 𝓖 𝓡)))
