@@ -1,7 +1,8 @@
 /*
  * How long the library's calls on masks take beside the same work in C, as ratios taken in one process: the library's time over that of the same steps (words skipped, ones counted, ends of runs
- * found by trailing zeros), and over that of a loop that looks at every cell by itself. All of them test the lengths and refuse as the library does. Each time is the least of ROUNDS, in which the
- * calls take turns on the same mask. Ends with 1 if two of them answer differently. bench/run.py builds it with the library.
+ * found by trailing zeros), and over that of a loop that looks at every cell by itself. For the totals, the same steps take the sums of a row and make totals of them, row by row; the loop over cells adds
+ * up the sums of 1, x, y, x², xy and y², and makes totals of them once, at the end. All test the lengths and refuse as the library does. Each time is the least of ROUNDS, in which the calls take turns on
+ * the same mask. Ends with 1 if two of them answer differently. bench/run.py builds it with the library.
  */
 #include <stdint.h>
 #include <stdio.h>
@@ -11,22 +12,12 @@
 
 #include "../callers/c/mavrihkel.h"
 
-enum { ROWS = 1024, WORDS_IN_A_ROW = 16, WORDS = ROWS * WORDS_IN_A_ROW, COLUMNS = 1024, MOST_RUNS = 4096, CALLS = 3, ROUNDS = 40, TIMES = 5 };
+enum { ROWS = 1024, WORDS_IN_A_ROW = 16, WORDS = ROWS * WORDS_IN_A_ROW, COLUMNS = 1024, MOST_RUNS = 4096, SUMS = 6, CALLS = 3, ROUNDS = 40, TIMES = 5 };
 
-typedef uint32_t sums_call(const uint64_t *words, size_t words_length, int64_t *out, size_t out_length);
+typedef uint32_t totals_call(const uint64_t *words, size_t words_length, int64_t *out, size_t out_length);
 typedef uint32_t runs_call(const uint64_t *words, size_t words_length, struct mavrihkel_run *runs, size_t runs_length, int64_t *out, size_t out_length);
 
 static int wrong_length(size_t length) { return length % WORDS_IN_A_ROW != 0 || length > WORDS; }
-
-static void add_cells(int64_t *sums, int64_t count, int64_t x, int64_t xx, int64_t y)
-{
-    sums[0] += count;
-    sums[1] += x;
-    sums[2] += count * y;
-    sums[3] += xx;
-    sums[4] += x * y;
-    sums[5] += count * y * y;
-}
 
 /* ---- by trailing zeros */
 
@@ -50,24 +41,41 @@ static uint32_t first_set(uint64_t word, uint32_t from)
 /* The same of a zero. */
 static uint32_t first_clear(uint64_t word, uint32_t from) { return first_set(~word, from); }
 
-__attribute__((noinline)) static uint32_t word_sums(const uint64_t *words, size_t words_length, int64_t *out, size_t out_length)
+/* Adds the totals of the ground under cells of row y: how many there are, and the sums of their x and x². */
+static void add_row(int64_t *totals, int64_t y, int64_t count, int64_t x, int64_t xx)
 {
-    if (out_length < MAVRIHKEL_SUMS) return MAVRIHKEL_SHORT_BUFFER;
-    int64_t sums[MAVRIHKEL_SUMS] = {0};
+    int64_t h = 2 * y + 1;
+    int64_t x6 = 6 * x + 3 * count;
+    int64_t y6 = 3 * count * h;
+    totals[0] += 2 * count;
+    totals[1] += x6;
+    totals[2] += y6;
+    totals[3] += 12 * (xx + x) + 4 * count;
+    totals[4] += 2 * x6 * h;
+    totals[5] += y6 * h + count;
+}
+
+__attribute__((noinline)) static uint32_t row_totals(const uint64_t *words, size_t words_length, int64_t *out, size_t out_length)
+{
+    if (out_length < MAVRIHKEL_TOTALS) return MAVRIHKEL_SHORT_BUFFER;
+    int64_t totals[MAVRIHKEL_TOTALS] = {0};
     uint32_t number = wrong_length(words_length) ? 31 : 0;
-    for (size_t k = 0; number == 0 && k < words_length; k++) {
-        uint64_t word = words[k];
-        uint64_t column = 64 * (k % WORDS_IN_A_ROW);
-        int64_t x = 0, xx = 0;
-        if (word == 0) continue;
-        for (uint32_t start = first_set(word, 0), end; start < 64; start = first_set(word, end)) {
-            end = first_clear(word, start);
-            x += index_sum(column + end) - index_sum(column + start);
-            xx += square_sum(column + end) - square_sum(column + start);
+    for (size_t row = 0; number == 0 && row < words_length / WORDS_IN_A_ROW; row++) {
+        int64_t count = 0, x = 0, xx = 0;
+        for (size_t w = 0; w < WORDS_IN_A_ROW; w++) {
+            uint64_t word = words[row * WORDS_IN_A_ROW + w];
+            uint64_t column = 64 * w;
+            if (word == 0) continue;
+            count += __builtin_popcountll(word);
+            for (uint32_t start = first_set(word, 0), end; start < 64; start = first_set(word, end)) {
+                end = first_clear(word, start);
+                x += index_sum(column + end) - index_sum(column + start);
+                xx += square_sum(column + end) - square_sum(column + start);
+            }
         }
-        add_cells(sums, __builtin_popcountll(word), x, xx, k / WORDS_IN_A_ROW);
+        add_row(totals, row, count, x, xx);
     }
-    memcpy(out, sums, sizeof sums);
+    memcpy(out, totals, sizeof totals);
     return number;
 }
 
@@ -113,16 +121,38 @@ __attribute__((noinline)) static uint32_t word_runs(const uint64_t *words, size_
 
 static int is_marked(const uint64_t *words, size_t cell) { return words[cell / 64] >> (cell % 64) & 1; }
 
-__attribute__((noinline)) static uint32_t bit_sums(const uint64_t *words, size_t words_length, int64_t *out, size_t out_length)
+/* One cell. */
+static void add_cell(int64_t *sums, int64_t x, int64_t y)
 {
-    if (out_length < MAVRIHKEL_SUMS) return MAVRIHKEL_SHORT_BUFFER;
-    int64_t sums[MAVRIHKEL_SUMS] = {0};
+    sums[0] += 1;
+    sums[1] += x;
+    sums[2] += y;
+    sums[3] += x * x;
+    sums[4] += x * y;
+    sums[5] += y * y;
+}
+
+/* The totals of the ground under cells, by their sums. */
+static void put_totals(int64_t *out, const int64_t *sums)
+{
+    int64_t count = sums[0], x = sums[1], y = sums[2];
+    out[0] = 2 * count;
+    out[1] = 6 * x + 3 * count;
+    out[2] = 6 * y + 3 * count;
+    out[3] = 12 * (sums[3] + x) + 4 * count;
+    out[4] = 24 * sums[4] + 12 * (x + y) + 6 * count;
+    out[5] = 12 * (sums[5] + y) + 4 * count;
+}
+
+__attribute__((noinline)) static uint32_t bit_totals(const uint64_t *words, size_t words_length, int64_t *out, size_t out_length)
+{
+    if (out_length < MAVRIHKEL_TOTALS) return MAVRIHKEL_SHORT_BUFFER;
+    int64_t sums[SUMS] = {0};
     uint32_t number = wrong_length(words_length) ? 31 : 0;
     for (size_t cell = 0; number == 0 && cell < 64 * words_length; cell++) {
-        int64_t x = cell % COLUMNS;
-        if (is_marked(words, cell)) add_cells(sums, 1, x, x * x, cell / COLUMNS);
+        if (is_marked(words, cell)) add_cell(sums, cell % COLUMNS, cell / COLUMNS);
     }
-    memcpy(out, sums, sizeof sums);
+    put_totals(out, sums);
     return number;
 }
 
@@ -193,18 +223,18 @@ static const struct { const char *name; void (*make)(void); uint32_t runs_number
 /* ---- measuring */
 
 static struct mavrihkel_run list[MOST_RUNS];
-static int64_t out[MAVRIHKEL_SUMS];
-static sums_call *const sums_calls[CALLS] = {mavrihkel_mask_sums, word_sums, bit_sums};
+static int64_t out[MAVRIHKEL_TOTALS];
+static totals_call *const totals_calls[CALLS] = {mavrihkel_mask_totals, row_totals, bit_totals};
 static runs_call *const runs_calls[CALLS] = {mavrihkel_mask_runs, word_runs, bit_runs};
 
-static uint32_t call_sums(int call) { return sums_calls[call](mask, WORDS, out, MAVRIHKEL_SUMS); }
+static uint32_t call_totals(int call) { return totals_calls[call](mask, WORDS, out, MAVRIHKEL_TOTALS); }
 static uint32_t call_runs(int call) { return runs_calls[call](mask, WORDS, list, MOST_RUNS, out, MAVRIHKEL_WRITTEN); }
 
 /* Ends the run if a call does not answer as the library does, with this number. */
 static void agree(uint32_t (*call)(int), uint32_t number)
 {
     static struct mavrihkel_run wanted_list[MOST_RUNS];
-    int64_t wanted[MAVRIHKEL_SUMS];
+    int64_t wanted[MAVRIHKEL_TOTALS];
     for (int k = 0; k < CALLS; k++) {
         memset(list, 255, sizeof list);
         memset(out, 255, sizeof out);
@@ -251,7 +281,7 @@ static void table(const char *what, uint32_t (*call)(int), int refuses)
 
 int main(void)
 {
-    table("sums of a mask of 1,024 rows", call_sums, 0);
+    table("totals of a mask of 1,024 rows", call_totals, 0);
     putchar('\n');
     table("runs of a mask of 1,024 rows", call_runs, 1);
     return 0;

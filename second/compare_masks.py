@@ -13,12 +13,12 @@ import sys
 from array import array
 from typing import NamedTuple
 
-from figures import Run
+from cells import Run
 from madeup_masks import large_masks, list_length, random_mask
-from masks import mask_runs, mask_sums
+from masks import mask_runs, mask_totals
 from worked import FOUR_RUNS, MOST_MASK_RUNS, ONE_RUN_MORE
 
-SUMS_NUMBERS = {0, 31}
+TOTALS_NUMBERS = {0, 31}
 RUNS_NUMBERS = {0, 8, 31}
 WORD_BEHIND = 2 ** 64 - 1    # behind the end of the words, where no call may read
 WRONG_LENGTHS = (1, 8, 15, 17, 24, 16_376, 16_383, 16_385, 16_400)
@@ -84,12 +84,12 @@ def line(*numbers):
 
 
 def wanted_lines(case):
-    """What the program is to print: a line for the sums, one for the runs."""
+    """What the program is to print: a line for the totals, one for the runs."""
     *handed_in, behind = case.records
-    number, sums = mask_sums(case.words)
+    number, totals = mask_totals(case.words)
     writer_number, count, afterwards = mask_runs(case.words, handed_in)
     afterwards = [*afterwards, behind]
-    return [line(number, *sums), line(writer_number, count, *(number for record in afterwards for number in record))]
+    return [line(number, *totals), line(writer_number, count, *(number for record in afterwards for number in record))]
 
 
 def printed_by(program, cases):
@@ -146,7 +146,7 @@ def main():
         print(f"the program ended with {status} after {len(got)} of {len(wanted)} lines")
         return 1
     numbers = [int(text.split()[0]) for text in wanted]
-    missing = (SUMS_NUMBERS - set(numbers[0::2]), RUNS_NUMBERS - set(numbers[1::2]))
+    missing = (TOTALS_NUMBERS - set(numbers[0::2]), RUNS_NUMBERS - set(numbers[1::2]))
     print(f"{len(cases)} masks, no difference; {numbers[1::2].count(0)} written, "
           f"{numbers[1::2].count(8)} refused with 8, {numbers[1::2].count(31)} with 31"
           + (f"; NOT SEEN: {missing}" if any(missing) else ""))

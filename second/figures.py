@@ -1,8 +1,8 @@
-"""Outlines, walks, sheets, cells and centres of document 01, straight from its rules.
+"""Outlines, walks, sheets and centres of document 01, straight from its rules.
 
-Maps and cuts are in moves.py.  Whole numbers only.  Every call answers a refusal
-number first; 0 means that the call was accepted.  A refused call answers zeros
-and changes nothing.
+Maps and cuts are in moves.py, cells in cells.py.  Whole numbers only.  Every call
+answers a refusal number first; 0 means that the call was accepted.  A refused call
+answers zeros and changes nothing.
 """
 from operator import add, gt
 from typing import NamedTuple
@@ -12,9 +12,6 @@ LEAST_POINTS = 3
 MOST_POINTS = 1_024
 MOST_OUTLINES = 64
 TOTAL_LIMIT = 10 ** 18
-MOST_RUNS = 4_096
-GRID_SIDE = 1_024
-MOST_CELLS = 1_048_576
 
 ACCEPTED = 0
 
@@ -27,23 +24,6 @@ class Totals(NamedTuple):
     xx12: int
     xy24: int
     yy12: int
-
-
-class CellSums(NamedTuple):
-    """"Cells": number of cells, then the sums of x, y, x², xy, y²."""
-    a: int
-    x: int
-    y: int
-    xx: int
-    xy: int
-    yy: int
-
-
-class Run(NamedTuple):
-    """"Cells": cells of one row, from the first column on."""
-    row: int
-    first: int
-    length: int
 
 
 class Walk(NamedTuple):
@@ -62,7 +42,6 @@ class Sheet(NamedTuple):
 
 
 ZERO_TOTALS = Totals(0, 0, 0, 0, 0, 0)
-ZERO_SUMS = CellSums(0, 0, 0, 0, 0, 0)
 OUTLINE_BOUNDS = Totals(8_192_000_000,
                         32_768_000_000_000, 32_768_000_000_000,
                         98_304_000_000_000_000, 196_608_000_000_000_000,
@@ -202,46 +181,6 @@ def abandon(walk):
     return ACCEPTED, CLOSED_WALK
 
 
-# Cells
-
-def sums_over(cells):
-    """The six sums over cells, each as its column and row."""
-    a = sum_x = sum_y = sum_xx = sum_xy = sum_yy = 0
-    for x, y in cells:
-        a += 1
-        sum_x += x
-        sum_y += y
-        sum_xx += x * x
-        sum_xy += x * y
-        sum_yy += y * y
-    return CellSums(a, sum_x, sum_y, sum_xx, sum_xy, sum_yy)
-
-
-def lies_after(run, earlier):
-    """Further up, or in the same row from where the earlier run has ended on."""
-    return run.row > earlier.row or (
-        run.row == earlier.row and run.first >= earlier.first + earlier.length)
-
-
-def region_sums(runs):
-    """Sums of a cell region, cell by cell: (number, allowed indices, sums).  Order 8, 6, 7.
-
-    With 6 and 7 any run that breaks the rule may be named, so a set of
-    indices is answered.  Otherwise it holds 0 alone.
-    """
-    if len(runs) > MOST_RUNS:
-        return 8, {0}, ZERO_SUMS
-    outside = {index for index, run in enumerate(runs)
-               if run.row > GRID_SIDE - 1 or run.length == 0 or run.first + run.length > GRID_SIDE}
-    if outside:
-        return 6, outside, ZERO_SUMS
-    out_of_order = {index for index in range(1, len(runs))
-                    if not lies_after(runs[index], runs[index - 1])}
-    if out_of_order:
-        return 7, out_of_order, ZERO_SUMS
-    return ACCEPTED, {0}, sums_over((x, run.row) for run in runs for x in range(run.first, run.first + run.length))
-
-
 # Centre
 
 def rounded_half_up(n, d):
@@ -252,7 +191,7 @@ def rounded_half_up(n, d):
 
 
 def centre_of_totals(totals):
-    """Centre of an outline or a sheet: (number, x, y).  Order 11, 27."""
+    """Centre of an outline, of a sheet or of cells: (number, x, y).  Order 11, 27."""
     if not within_bounds(totals, SHEET_BOUNDS):
         return 11, 0, 0
     if totals.a2 == 0:
@@ -260,12 +199,3 @@ def centre_of_totals(totals):
     sign = -1 if totals.a2 < 0 else 1
     d = sign * 3 * totals.a2
     return ACCEPTED, rounded_half_up(sign * totals.x6, d), rounded_half_up(sign * totals.y6, d)
-
-
-def centre_of_cells(sums):
-    """Centre of a cell region: (number, x, y).  Order 11, 27."""
-    if sums.a > MOST_CELLS or any(total < 0 or total > TOTAL_LIMIT for total in sums):
-        return 11, 0, 0
-    if sums.a == 0:
-        return 27, 0, 0
-    return ACCEPTED, rounded_half_up(sums.x, sums.a), rounded_half_up(sums.y, sums.a)

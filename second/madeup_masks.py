@@ -1,5 +1,5 @@
 """Masks from a seeded generator: sparse, dense, random, in runs, at the edges of words and near 4,096 runs."""
-from figures import GRID_SIDE, MOST_RUNS
+from cells import GRID_SIDE, MOST_RUNS
 from masks import MOST_WORDS, WORD_BITS, WORDS_IN_A_ROW, has_wrong_length, longest_runs
 
 ALL_ONES = 2 ** WORD_BITS - 1

@@ -1,11 +1,13 @@
 """Cell masks, document 02's first request, straight from its words and cell by cell.
+The marked cells answer totals, as its second request has it.
 
 A mask is a list of words of 64 bits, 16 to a row, rows 0 upwards; bit i of word w
 of a row, from the lowest, is column 64×w + i.  Both calls answer a refusal number
 first; 0 means that the call was accepted.
 """
-from figures import ACCEPTED, GRID_SIDE, MOST_RUNS, ZERO_SUMS
-from figures import Run, sums_over
+from cells import GRID_SIDE, MOST_RUNS
+from cells import Run, ground_totals
+from figures import ACCEPTED, ZERO_TOTALS
 
 WORD_BITS = 64
 WORDS_IN_A_ROW = GRID_SIDE // WORD_BITS
@@ -33,11 +35,11 @@ def rows_of(words):
     return range(len(words) // WORDS_IN_A_ROW)
 
 
-def mask_sums(words):
-    """Sums of the marked cells, cell by cell: (number, sums)."""
+def mask_totals(words):
+    """Totals of the ground under the marked cells: (number, totals)."""
     if has_wrong_length(words):
-        return 31, ZERO_SUMS
-    return ACCEPTED, sums_over((x, y) for y in rows_of(words) for x in marked_columns(words, y))
+        return 31, ZERO_TOTALS
+    return ACCEPTED, ground_totals((marked_columns(words, y), y) for y in rows_of(words))
 
 
 def row_runs(words, y):

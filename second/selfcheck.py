@@ -1,5 +1,6 @@
 """Checks of this program by itself: the listing and the ✱ rows of document 01,
-corner cases of its rules, and its laws on made-up outlines and masks.
+corner cases of its rules, and its laws on made-up outlines; those of cells and
+masks are in selfcheck_cells.py.
 
 Runnable; prints what fails and exits 1, else prints how many checks passed.
 """
@@ -7,17 +8,17 @@ import random
 import sys
 
 import text
-from figures import CLOSED_WALK, FRESH_WALK, NEW_SHEET, OUTLINE_BOUNDS, ZERO_SUMS, ZERO_TOTALS
-from figures import CellSums, Run, Sheet, Totals
-from figures import abandon, added, begin, centre_of_cells, centre_of_totals, edge_terms, end
-from figures import list_call, outline_totals, point, region_sums, within_limits
+from checks import check, failed, passed
+from figures import CLOSED_WALK, FRESH_WALK, NEW_SHEET, OUTLINE_BOUNDS, ZERO_TOTALS
+from figures import Sheet, Totals
+from figures import abandon, added, begin, centre_of_totals, edge_terms, end
+from figures import list_call, outline_totals, point, within_limits
 from inputs import LISTING
 from madeup import random_points
-from madeup_masks import checkerboard, full, list_length, random_mask
-from masks import is_marked, longest_runs, mask_runs, mask_sums, rows_of
 from moves import AffineMap, Cut
 from moves import after_cuts, map_call, moved, started_at, walked_backwards
-from worked import FOUR_RUNS, MOST_MASK_RUNS, ONE_RUN_MORE, RECORD_BEFORE, numbers_of, walked
+from selfcheck_cells import check_mask_corners, check_mask_laws, check_region_corners, check_worked_regions
+from worked import numbers_of, walked
 
 LISTING_OUTPUT = ("O 1 4 80 1200 960 14720 21120 8960 5 4",
                   "O 2 4 0 -8 0 -32 -32 0 - -",
@@ -27,18 +28,6 @@ RECTANGLE = [(2, 0), (10, 4), (8, 8), (0, 4)]
 FIGURE_EIGHT = [(0, 0), (2, 2), (2, 0), (0, 2)]
 UNIT_SQUARE = [(0, 0), (1, 0), (1, 1), (0, 1)]
 SQUARE_WEST = [(-1, 0), (0, 0), (0, 1), (-1, 1)]
-
-passed = 0
-failed = []
-
-
-def check(label, got, wanted):
-    """Count one comparison."""
-    global passed
-    if got == wanted:
-        passed += 1
-    else:
-        failed.append(f"{label}: got {got}, wanted {wanted}")
 
 
 def with_tabs(shown_lines):
@@ -57,7 +46,7 @@ def check_listing():
 
 
 def check_starred_rows():
-    """"Plots worked by hand": the rows marked ✱."""
+    """"Plots worked by hand": the rows marked ✱, but for the run."""
     check("rectangle", list_call(numbers_of(RECTANGLE)),
           (0, (80, 1200, 960, 14720, 21120, 8960)))
     check("rectangle centre", centre_of_totals(outline_totals(RECTANGLE)), (0, 5, 4))
@@ -74,9 +63,6 @@ def check_starred_rows():
     check("rectangle cut", [(each.a2, each.x6) for each in totals], [(40, 800), (40, 400)])
     check("one point three times", list_call([5, 7] * 3), (0, ZERO_TOTALS))
     check("its centre", centre_of_totals(ZERO_TOTALS), (27, 0, 0))
-    sums = CellSums(3, 9, 9, 29, 27, 27)
-    check("run", region_sums([Run(3, 2, 3)]), (0, {0}, sums))
-    check("run centre", centre_of_cells(sums), (0, 3, 3))
 
 
 def check_unnoticed_errors():
@@ -122,7 +108,7 @@ def check_walk_corners():
 
 
 def check_other_corners():
-    """Lists, maps, centres and runs: corner cases."""
+    """Lists, maps and centres: corner cases."""
     for length in (0, 5, 7, 2049, 2050):
         check("list length", list_call([9999] * length), (2, ZERO_TOTALS))
     check("longest list", list_call([2000] * 2048), (0, ZERO_TOTALS))
@@ -135,57 +121,6 @@ def check_other_corners():
     check("11", centre_of_totals(ZERO_TOTALS._replace(yy12=10 ** 18 + 1)), (11, 0, 0))
     check("reversed square at -1", centre_of_totals(Totals(-2, 3, -3, -4, 3, -4)), (0, 0, 1))
     check("-3/2 goes up", centre_of_totals(Totals(2, -9, 9, 0, 0, 0)), (0, -1, 2))
-    check("cells 11", centre_of_cells(ZERO_SUMS._replace(xy=-1)), (11, 0, 0))
-    check("cells 27", centre_of_cells(ZERO_SUMS), (27, 0, 0))
-    check("no runs", region_sums([]), (0, {0}, ZERO_SUMS))
-    check("8", region_sums([Run(0, 0, 0)] * 4097), (8, {0}, ZERO_SUMS))
-    check("6 before 7", region_sums([Run(5, 0, 1), Run(4, 0, 1), Run(9, 1024, 1)]), (6, {2}, ZERO_SUMS))
-    check("7", region_sums([Run(5, 0, 3), Run(5, 2, 1), Run(5, 3, 1)]), (7, {1}, ZERO_SUMS))
-    check("touching", region_sums([Run(0, 0, 2), Run(0, 2, 1)])[0], 0)
-
-
-def check_mask_corners():
-    """Document 02's masks: corner cases."""
-    before = [RECORD_BEFORE] * 5_000
-    runs = [Run(0, 0, 1), Run(0, 63, 3), Run(0, 1023, 1), Run(1, 0, 1)]
-    check("mask sums", mask_sums(FOUR_RUNS), (0, (6, 1215, 1, 1058819, 0, 1)))
-    for held in (4, 5, 5_000):
-        check("mask runs", mask_runs(FOUR_RUNS, before[:held]), (0, 4, runs + before[4:held]))
-    for held in (0, 3):
-        check("a list that is too short", mask_runs(FOUR_RUNS, before[:held]), (8, 0, before[:held]))
-    number, count, afterwards = mask_runs(MOST_MASK_RUNS, before)
-    check("4,096 runs", (number, count, afterwards[4095:4097]), (0, 4096, [Run(7, 1022, 1), RECORD_BEFORE]))
-    check("4,097 runs", mask_runs(ONE_RUN_MORE, before), (8, 0, before))
-    check("4,097 runs have sums", [mask_sums(ONE_RUN_MORE)[0], mask_sums(ONE_RUN_MORE)[1].a], [0, 4097])
-    check("no words", [mask_sums([]), mask_runs([], [])], [(0, ZERO_SUMS), (0, 0, [])])
-    for length in (1, 8, 15, 17, 24, 16_383, 16_385, 16_400):
-        check("31", [mask_sums([1] * length), mask_runs([1] * length, before)], [(31, ZERO_SUMS), (31, 0, before)])
-    check("31 before 8", mask_runs([1] * 17, [])[0], 31)
-    whole_grid = CellSums(1048576, 536346624, 536346624, 365967179776, 274341298176, 365967179776)
-    check("full grid", mask_sums(full(1024)), (0, whole_grid))
-    check("full grid, runs", longest_runs(full(1024)), [Run(y, 0, 1024) for y in range(1024)])
-    check("checkerboard", [mask_sums(checkerboard(1024))[1].a, mask_runs(checkerboard(1024), before)[0]], [524288, 8])
-
-
-def check_mask_laws(rng):
-    """Laws of a made-up mask and its longest runs."""
-    _, words = random_mask(rng)
-    before = [RECORD_BEFORE] * list_length(rng, words)
-    number, count, afterwards = mask_runs(words, before)
-    check("records that stay", afterwards[count:], before[count:])
-    check("both calls refuse with 31", mask_sums(words)[0] == 31, number == 31)
-    if number == 31:
-        return
-    runs = longest_runs(words)
-    cells = [(x, run.row) for run in runs for x in range(run.first, run.first + run.length)]
-    check("the runs' cells", cells, [(x, y) for y in rows_of(words) for x in range(1024) if is_marked(words, x, y)])
-    check("no two runs touch", [run for run, later in zip(runs, runs[1:])
-                                if run.row == later.row and run.first + run.length >= later.first], [])
-    check("A is the count of ones", mask_sums(words)[1].a, sum(bin(word).count("1") for word in words))
-    check("written", [number, count], [0, len(runs)] if len(runs) <= min(4096, len(before)) else [8, 0])
-    if number == 0:
-        check("the written runs", afterwards[:count], runs)
-        check("their sums", region_sums(afterwards[:count]), (0, {0}, mask_sums(words)[1]))
 
 
 def check_demand_3(rng, outline):
@@ -241,6 +176,8 @@ if __name__ == "__main__":
     check_unnoticed_errors()
     check_walk_corners()
     check_other_corners()
+    check_worked_regions()
+    check_region_corners()
     check_mask_corners()
     made_up = random.Random(1)
     for _ in range(200):
@@ -251,5 +188,5 @@ if __name__ == "__main__":
         check_mask_laws(made_up)
     for failure in failed:
         print(failure)
-    print(f"{passed} checks passed, {len(failed)} failed")
+    print(f"{len(passed)} checks passed, {len(failed)} failed")
     sys.exit(1 if failed else 0)

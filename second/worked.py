@@ -2,10 +2,11 @@
 
 Fields are separated by tabs: label, what was asked, refusal number (0 if accepted), values.
 """
+from cells import Run, region_totals
 from figures import CLOSED_WALK, FRESH_WALK, NEW_SHEET, ZERO_TOTALS
-from figures import Run, begin, end, list_call, point, region_sums
+from figures import begin, end, list_call, point
 from inputs import SQUARE
-from masks import MOST_WORDS, WORDS_IN_A_ROW, mask_runs, mask_sums
+from masks import MOST_WORDS, WORDS_IN_A_ROW, mask_runs, mask_totals
 from moves import AffineMap, map_call
 
 DOUBLING = AffineMap(a=2, b=0, g=0, h=2, e=0, f=0)
@@ -65,9 +66,9 @@ def sheet_row(earlier):
 
 
 def run_row(first, length):
-    """One run, of row 0.  Asked: first column, length.  Answered: number, index, six sums."""
-    number, indices, sums = region_sums([Run(row=0, first=first, length=length)])
-    return ["run", first, length, number, *indices, *sums]
+    """One run, of row 0.  Asked: first column, length.  Answered: number, index, six totals."""
+    number, indices, totals = region_totals([Run(row=0, first=first, length=length)])
+    return ["run", first, length, number, *indices, *totals]
 
 
 def walk_row(count, a2):
@@ -83,10 +84,10 @@ def all_ones(words):
     return [2 ** 64 - 1] * words
 
 
-def mask_sums_row(words):
-    """A mask.  Asked: its number of words.  Answered: number, six sums."""
-    number, sums = mask_sums(words)
-    return ["mask-sums", len(words), number, *sums]
+def mask_totals_row(words):
+    """A mask.  Asked: its number of words.  Answered: number, six totals."""
+    number, totals = mask_totals(words)
+    return ["mask-totals", len(words), number, *totals]
 
 
 def mask_runs_row(words, records):
@@ -107,7 +108,7 @@ def mask_rows():
     """The fields of the masks' rows.  No two masks have the same number of words."""
     for words in (FOUR_RUNS, MOST_MASK_RUNS, ONE_RUN_MORE, [], all_ones(MOST_WORDS),
                   all_ones(15), all_ones(17), all_ones(MOST_WORDS + 16)):
-        yield mask_sums_row(words)
+        yield mask_totals_row(words)
     for records in (3, 4, 5):
         yield mask_runs_row(FOUR_RUNS, records)
     yield mask_runs_row([], 0)

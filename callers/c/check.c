@@ -1,4 +1,7 @@
-/* Document 01's rectangle, unit square and run and masks of document 02 through mavrihkel.h, each refusal once, and a buffer that is too short. Ends with 1 if an answer is wrong. */
+/*
+ * Document 01's rectangle and unit square, and runs and masks as document 02 has them, through mavrihkel.h; each refusal once, and a buffer that is too short. Totals of cells are also compared with
+ * those that an independent loop takes cell by cell. Ends with 1 if an answer is wrong.
+ */
 #include <inttypes.h>
 #include <stdio.h>
 #include <string.h>
@@ -35,6 +38,46 @@ static void expect(const char *what, uint32_t number, uint32_t wanted, const int
 #define LENGTH(list) (sizeof(list) / sizeof((list)[0]))
 #define TOTALS(t) (t)[0], (t)[1], (t)[2], (t)[3], (t)[4], (t)[5]
 
+/* ---- cells, each by the edges of its square */
+
+static void add_edge(int64_t *totals, int64_t x, int64_t y, int64_t p, int64_t q)
+{
+    int64_t c = x * q - p * y;
+    totals[0] += c;
+    totals[1] += (x + p) * c;
+    totals[2] += (y + q) * c;
+    totals[3] += (x * x + x * p + p * p) * c;
+    totals[4] += (2 * x * y + x * q + p * y + 2 * p * q) * c;
+    totals[5] += (y * y + y * q + q * q) * c;
+}
+
+static void add_cell(int64_t *totals, int64_t x, int64_t y)
+{
+    add_edge(totals, x, y, x + 1, y);
+    add_edge(totals, x + 1, y, x + 1, y + 1);
+    add_edge(totals, x + 1, y + 1, x, y + 1);
+    add_edge(totals, x, y + 1, x, y);
+}
+
+/* Whether these are the totals of the ground under the cells of runs. */
+static int are_totals_of(const int64_t *totals, const struct mavrihkel_run *runs, size_t count)
+{
+    int64_t wanted[MAVRIHKEL_TOTALS] = {0};
+    for (size_t k = 0; k < count; k++)
+        for (uint32_t n = 0; n < runs[k].length; n++) add_cell(wanted, (int64_t)runs[k].first + n, runs[k].row);
+    return memcmp(totals, wanted, sizeof wanted) == 0;
+}
+
+/* An accepted region: its totals, index 0, and the same totals cell by cell; its centre, or 27 with zeros where it has no cell. */
+static void expect_region(const char *what, const struct mavrihkel_run *runs, size_t count, const int64_t *values, const int64_t *centre)
+{
+    expect(what, mavrihkel_region_totals(runs, count, fresh(), ROOM), 0, values, MAVRIHKEL_REGION);
+    int right = are_totals_of(out, runs, count);
+    if (!right) puts("not the totals of its cells: WRONG");
+    wrong = wrong || !right;
+    expect("its centre", mavrihkel_outline_centroid(TOTALS(values), fresh(), ROOM), count == 0 ? 27 : 0, centre, MAVRIHKEL_CENTRE);
+}
+
 /* ---- masks */
 
 #define MOST_RUNS 4096
@@ -69,21 +112,22 @@ static void expect_list(int right)
     wrong = wrong || !right;
 }
 
-/* The sums of a mask. */
-static void expect_sums(const char *what, const uint64_t *words, size_t length, uint32_t wanted, const int64_t *sums)
+/* The totals of a mask. */
+static void expect_totals(const char *what, const uint64_t *words, size_t length, uint32_t wanted, const int64_t *totals)
 {
-    expect(what, mavrihkel_mask_sums(words, length, fresh(), ROOM), wanted, sums, MAVRIHKEL_SUMS);
+    expect(what, mavrihkel_mask_totals(words, length, fresh(), ROOM), wanted, totals, MAVRIHKEL_TOTALS);
 }
 
-/* The writer with a list of so many records: the number, how many it wrote, the last of them; all behind them is as it was. The region that they make up has the mask's sums. */
+/* The writer with a list of so many records: the number, how many it wrote, the last of them; all behind them is as it was. The region that they make up has the mask's totals, which are those of its
+ * cells. */
 static void expect_runs(const char *what, const uint64_t *words, size_t length, size_t held, uint32_t wanted, int64_t count, struct mavrihkel_run last)
 {
-    int64_t sums[MAVRIHKEL_REGION] = {0}, marked[MAVRIHKEL_SUMS];
+    int64_t totals[MAVRIHKEL_REGION] = {0}, marked[MAVRIHKEL_TOTALS];
     expect(what, mavrihkel_mask_runs(words, length, fresh_list(), held, fresh(), ROOM), wanted, &count, MAVRIHKEL_WRITTEN);
     expect_list(list_is(count, last));
     if (wanted == 0) {
-        mavrihkel_mask_sums(words, length, marked, MAVRIHKEL_SUMS);
-        expect_list(mavrihkel_region_sums(list, count, sums, MAVRIHKEL_REGION) == 0 && memcmp(sums, marked, sizeof marked) == 0);
+        mavrihkel_mask_totals(words, length, marked, MAVRIHKEL_TOTALS);
+        expect_list(mavrihkel_region_totals(list, count, totals, MAVRIHKEL_REGION) == 0 && memcmp(totals, marked, sizeof marked) == 0 && are_totals_of(marked, list, count));
     }
 }
 
@@ -93,32 +137,34 @@ static void check_masks(void)
     static const uint64_t four_runs[32] = {[0] = UINT64_C(1) << 63 | 1, [1] = 3, [15] = UINT64_C(1) << 63, [16] = 1};
     /* Every other cell of eight rows, 4,096 runs; with the ninth row one more. */
     static uint64_t alternating[9 * 16], all_ones[MOST_WORDS + 16];
-    const int64_t four_runs_sums[] = {6, 1215, 1, 1058819, 0, 1};
-    const int64_t alternating_sums[] = {4097, 2093056, 14344, 1427464192, 7325696, 71744};
-    const int64_t grid_sums[] = {1048576, 536346624, 536346624, INT64_C(365967179776), INT64_C(274341298176), INT64_C(365967179776)};
-    const int64_t zeros[MAVRIHKEL_SUMS] = {0};
+    const int64_t four_runs_totals[] = {12, 7308, 24, 12720432, 14628, 48};
+    const int64_t alternating_totals[] = {8194, 12570627, 98355, INT64_C(17154703364), 201130086, 1049444};
+    const int64_t grid_totals[] = {2097152, INT64_C(3221225472), INT64_C(3221225472), INT64_C(4398046511104), INT64_C(6597069766656), INT64_C(4398046511104)};
+    const int32_t grid[] = {0, 0, 1024, 0, 1024, 1024, 0, 1024};
+    const int64_t zeros[MAVRIHKEL_TOTALS] = {0};
     const struct mavrihkel_run last_of_four = {1, 0, 1}, last_of_most = {7, 1022, 1}, last_of_grid = {1023, 0, 1024};
     for (size_t k = 0; k < 8 * 16; k++) alternating[k] = UINT64_C(0x5555555555555555);
     alternating[8 * 16] = 1;
     memset(all_ones, 255, sizeof all_ones);
 
-    expect_sums("mask", four_runs, LENGTH(four_runs), 0, four_runs_sums);
+    expect_totals("mask", four_runs, LENGTH(four_runs), 0, four_runs_totals);
     expect_runs("its runs, room for five", four_runs, LENGTH(four_runs), 5, 0, 4, last_of_four);
     expect_runs("room for four", four_runs, LENGTH(four_runs), 4, 0, 4, last_of_four);
     expect_runs("room for three", four_runs, LENGTH(four_runs), 3, 8, 0, before);
     expect_runs("4,096 runs of a mask", alternating, 8 * 16, LENGTH(list), 0, MOST_RUNS, last_of_most);
     expect_runs("4,097 runs of a mask", alternating, LENGTH(alternating), LENGTH(list), 8, 0, before);
-    expect_sums("their sums", alternating, LENGTH(alternating), 0, alternating_sums);
-    expect_sums("no words", all_ones, 0, 0, zeros);
+    expect_totals("their totals", alternating, LENGTH(alternating), 0, alternating_totals);
+    expect_totals("no words", all_ones, 0, 0, zeros);
     expect_runs("no words", all_ones, 0, 0, 0, 0, before);
-    expect_sums("full grid", all_ones, MOST_WORDS, 0, grid_sums);
+    expect_totals("full grid", all_ones, MOST_WORDS, 0, grid_totals);
+    expect("outline round the grid", mavrihkel_outline_totals(grid, LENGTH(grid), fresh(), ROOM), 0, grid_totals, MAVRIHKEL_TOTALS);
     expect_runs("full grid", all_ones, MOST_WORDS, LENGTH(list), 0, 1024, last_of_grid);
     for (size_t k = 0; k < 4; k++) {
         const size_t wrong_lengths[] = {15, 17, 24, MOST_WORDS + 16};
-        expect_sums("mask of wrong length", all_ones, wrong_lengths[k], 31, zeros);
+        expect_totals("mask of wrong length", all_ones, wrong_lengths[k], 31, zeros);
         expect_runs("mask of wrong length", all_ones, wrong_lengths[k], k, 31, 0, before);
     }
-    expect("room for five", mavrihkel_mask_sums(four_runs, LENGTH(four_runs), fresh(), MAVRIHKEL_SUMS - 1), MAVRIHKEL_SHORT_BUFFER, NULL, 0);
+    expect("room for five", mavrihkel_mask_totals(four_runs, LENGTH(four_runs), fresh(), MAVRIHKEL_TOTALS - 1), MAVRIHKEL_SHORT_BUFFER, NULL, 0);
     expect("room for none", mavrihkel_mask_runs(four_runs, LENGTH(four_runs), fresh_list(), LENGTH(list), fresh(), 0), MAVRIHKEL_SHORT_BUFFER, NULL, 0);
     expect_list(list_is(0, before));
 }
@@ -137,11 +183,13 @@ int main(void)
     const int64_t rectangle_centre[] = {5, 4};
     const int64_t square_centre[] = {1, 1};
     const struct mavrihkel_run sound[] = {{3, 2, 3}, {3, 5, 1}, {4, 0, 2}};
+    const struct mavrihkel_run l_shape[] = {{0, 0, 3}, {1, 0, 1}};
     const struct mavrihkel_run overlapping[] = {{3, 2, 3}, {3, 4, 1}};
     const struct mavrihkel_run without_cells[] = {{3, 2, 3}, {3, 4, 1}, {5, 0, 0}};
     static struct mavrihkel_run many[4097];
-    const int64_t one_run_sums[] = {3, 9, 9, 29, 27, 27, 0};
-    const int64_t sound_sums[] = {6, 15, 20, 55, 46, 68, 0};
+    const int64_t one_run_totals[] = {6, 63, 63, 468, 882, 444, 0}, one_run_centre[] = {4, 4};
+    const int64_t sound_totals[] = {12, 108, 138, 864, 1560, 1080, 0}, sound_centre[] = {3, 4};
+    const int64_t l_shape_totals[] = {8, 30, 18, 112, 72, 40, 0}, l_shape_centre[] = {1, 1};
     const int64_t index_1[] = {0, 0, 0, 0, 0, 0, 1};
     const int64_t index_2[] = {0, 0, 0, 0, 0, 0, 2};
     const int64_t zeros[MAVRIHKEL_REGION] = {0};
@@ -160,17 +208,18 @@ int main(void)
     expect("centre of too much", mavrihkel_outline_centroid(2, 3, 3, 4, 6, INT64_MAX, fresh(), ROOM), 11, zeros, MAVRIHKEL_CENTRE);
     expect("no area", mavrihkel_outline_centroid(TOTALS(large), fresh(), ROOM), 27, zeros, MAVRIHKEL_CENTRE);
 
-    expect("run", mavrihkel_region_sums(sound, 1, fresh(), ROOM), 0, one_run_sums, MAVRIHKEL_REGION);
-    expect("three runs", mavrihkel_region_sums(sound, LENGTH(sound), fresh(), ROOM), 0, sound_sums, MAVRIHKEL_REGION);
-    expect("no runs", mavrihkel_region_sums(sound, 0, fresh(), ROOM), 0, zeros, MAVRIHKEL_REGION);
-    expect("run without cells", mavrihkel_region_sums(without_cells, LENGTH(without_cells), fresh(), ROOM), 6, index_2, MAVRIHKEL_REGION);
-    expect("overlapping runs", mavrihkel_region_sums(overlapping, LENGTH(overlapping), fresh(), ROOM), 7, index_1, MAVRIHKEL_REGION);
-    expect("4,097 runs", mavrihkel_region_sums(many, LENGTH(many), fresh(), ROOM), 8, zeros, MAVRIHKEL_REGION);
+    expect_region("run", sound, 1, one_run_totals, one_run_centre);
+    expect_region("three runs", sound, LENGTH(sound), sound_totals, sound_centre);
+    expect_region("L", l_shape, LENGTH(l_shape), l_shape_totals, l_shape_centre);
+    expect_region("no runs", sound, 0, zeros, zeros);
+    expect("run without cells", mavrihkel_region_totals(without_cells, LENGTH(without_cells), fresh(), ROOM), 6, index_2, MAVRIHKEL_REGION);
+    expect("overlapping runs", mavrihkel_region_totals(overlapping, LENGTH(overlapping), fresh(), ROOM), 7, index_1, MAVRIHKEL_REGION);
+    expect("4,097 runs", mavrihkel_region_totals(many, LENGTH(many), fresh(), ROOM), 8, zeros, MAVRIHKEL_REGION);
 
     expect("room for five", mavrihkel_outline_totals(square, LENGTH(square), fresh(), MAVRIHKEL_TOTALS - 1), MAVRIHKEL_SHORT_BUFFER, NULL, 0);
     expect("room for five", mavrihkel_map_totals(1, 1, 0, 1, 1, 0, TOTALS(square_totals), fresh(), MAVRIHKEL_TOTALS - 1), MAVRIHKEL_SHORT_BUFFER, NULL, 0);
     expect("room for one", mavrihkel_outline_centroid(TOTALS(square_totals), fresh(), MAVRIHKEL_CENTRE - 1), MAVRIHKEL_SHORT_BUFFER, NULL, 0);
-    expect("room for six", mavrihkel_region_sums(sound, 1, fresh(), MAVRIHKEL_REGION - 1), MAVRIHKEL_SHORT_BUFFER, NULL, 0);
+    expect("room for six", mavrihkel_region_totals(sound, 1, fresh(), MAVRIHKEL_REGION - 1), MAVRIHKEL_SHORT_BUFFER, NULL, 0);
     check_masks();
     return wrong;
 }

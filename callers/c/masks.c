@@ -2,7 +2,7 @@
  * The calls on masks, for second/compare_masks.py: reads cases from standard input to its end and prints two lines for each.
  *
  * A case is, without anything between them: two 64-bit numbers, the lengths of the words and of the list; the words and one word more; the records of the list and one record more. Neither of
- * these two is the calls' to read or to write. The lines are the number and the six sums; the number, how many runs were written, and every record afterwards, that behind the list's end too.
+ * these two is the calls' to read or to write. The lines are the number and the six totals; the number, how many runs were written, and every record afterwards, that behind the list's end too.
  * Ends with 1 if the input breaks off within a case.
  */
 #include <inttypes.h>
@@ -19,12 +19,12 @@ static void *read_entries(size_t size, uint64_t count)
     return entries;
 }
 
-/* The sums of a mask as a line. */
-static void print_sums(const uint64_t *words, size_t length)
+/* The totals of a mask as a line. */
+static void print_totals(const uint64_t *words, size_t length)
 {
-    int64_t out[MAVRIHKEL_SUMS] = {0};
-    printf("%" PRIu32, mavrihkel_mask_sums(words, length, out, MAVRIHKEL_SUMS));
-    for (size_t k = 0; k < MAVRIHKEL_SUMS; k++) printf(" %" PRId64, out[k]);
+    int64_t out[MAVRIHKEL_TOTALS] = {0};
+    printf("%" PRIu32, mavrihkel_mask_totals(words, length, out, MAVRIHKEL_TOTALS));
+    for (size_t k = 0; k < MAVRIHKEL_TOTALS; k++) printf(" %" PRId64, out[k]);
     putchar('\n');
 }
 
@@ -44,7 +44,7 @@ int main(void)
     while (fread(lengths, sizeof lengths[0], 2, stdin) == 2) {
         uint64_t *words = read_entries(sizeof *words, lengths[0]);
         struct mavrihkel_run *runs = read_entries(sizeof *runs, lengths[1]);
-        print_sums(words, lengths[0]);
+        print_totals(words, lengths[0]);
         print_runs(words, lengths[0], runs, lengths[1]);
         free(words);
         free(runs);

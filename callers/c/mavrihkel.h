@@ -10,6 +10,13 @@
  *
  * Lengths are in decimetres, x east and y north. The six totals, in this order: A2 (2 x area), X6 and Y6 (6 x the integral of x and of y), XX12 (12 x that of x squared), XY24 (24 x that of x y),
  * YY12 (12 x that of y squared); positive where the outline is walked anticlockwise.
+ *
+ * A cell is its ground: the cell in column x of row y is the square from (x, y) to (x + 1, y + 1). Cells answer the six totals of the ground under them: each cell counts as an outline round its
+ * square, walked anticlockwise. mavrihkel_map_totals and mavrihkel_outline_centroid take these totals as they take an outline's; none is too large for them.
+ *
+ * What changed with document 02, CR 2: mavrihkel_region_totals and mavrihkel_mask_totals answer these totals. The calls of before, mavrihkel_region_sums and mavrihkel_mask_sums, answered sums over
+ * cells as points: their number, and the sums of x, y, x squared, x y and y squared. They are gone, and MAVRIHKEL_SUMS with them, so that an old program fails to build or to link instead of
+ * reading other figures. From the old sums A, Sx, Sy, Sxx, Sxy, Syy the totals are 2 A, 6 Sx + 3 A, 6 Sy + 3 A, 12 Sxx + 12 Sx + 4 A, 24 Sxy + 12 Sx + 12 Sy + 6 A, 12 Syy + 12 Sy + 4 A.
  */
 #ifndef MAVRIHKEL_H
 #define MAVRIHKEL_H
@@ -24,7 +31,6 @@ extern "C" {
 #define MAVRIHKEL_TOTALS 6
 #define MAVRIHKEL_CENTRE 2
 #define MAVRIHKEL_REGION 7
-#define MAVRIHKEL_SUMS 6
 #define MAVRIHKEL_WRITTEN 1
 #define MAVRIHKEL_SHORT_BUFFER 100
 
@@ -46,7 +52,7 @@ uint32_t mavrihkel_map_totals(int32_t a, int32_t b, int32_t g, int32_t h, int32_
                               int64_t *out, size_t out_length);
 
 /*
- * The centre of an outline or of a sheet by its six totals: two values, x and y, each the exact quotient in decimetres rounded to a whole number, halves up (towards east and north).
+ * The centre of an outline, of a sheet or of cells by its six totals: two values, x and y, each the exact quotient in decimetres rounded to a whole number, halves up (towards east and north).
  *   11  a total is greater than 10^18 in size
  *   27  A2 is 0
  */
@@ -61,25 +67,24 @@ struct mavrihkel_run {
 };
 
 /*
- * The sums of the region that runs make up; `runs_length` counts runs, and none is legal. Each run lies after the one before: on a higher row, or on the same row with its first column not below
- * the earlier first column plus length. Seven values: the number of cells; the sums of x, y, x squared, x y and y squared, where x is a cell's column and y its row; and an index: with 6 and
- * 7 that of a run that breaks the rule, counted from 0; else 0.
+ * The six totals of the ground under the cells of runs; `runs_length` counts runs, and none is legal: six zeros. Each run lies after the one before: on a higher row, or on the same row with its
+ * first column not below the earlier first column plus length. Seven values: the totals, and behind them an index: with 6 and 7 that of a run that breaks the rule, counted from 0; else 0.
  *   8  there are more than 4,096 runs
  *   6  a run has a row over 1,023, has no cell, or goes past column 1,023
  *   7  a run has a lower row than the run before it, or has the same row and begins before that run ends
  */
-uint32_t mavrihkel_region_sums(const struct mavrihkel_run *runs, size_t runs_length, int64_t *out, size_t out_length);
+uint32_t mavrihkel_region_totals(const struct mavrihkel_run *runs, size_t runs_length, int64_t *out, size_t out_length);
 
 /*
- * The sums of the marked cells of a mask: `words` has 16 words for each row, rows 0 upwards; bit i of a row's word w, from the lowest, is column 64 w + i, and a one marks the cell.
- * `words_length` counts words, and none is legal. Six values: the number of cells; the sums of x, y, x squared, x y and y squared, as above. However many runs the cells make up, they have sums.
+ * The six totals of the ground under the marked cells of a mask: `words` has 16 words for each row, rows 0 upwards; bit i of a row's word w, from the lowest, is column 64 w + i, and a one marks the
+ * cell. `words_length` counts words, and none is legal: six zeros. However many runs the cells make up, they have totals.
  *   31  the length is no multiple of 16, or is over 16,384 (1,024 rows)
  */
-uint32_t mavrihkel_mask_sums(const uint64_t *words, size_t words_length, int64_t *out, size_t out_length);
+uint32_t mavrihkel_mask_totals(const uint64_t *words, size_t words_length, int64_t *out, size_t out_length);
 
 /*
  * Writes the longest possible runs of a mask's marked cells, in order, to the front of `runs`; a run may go on from word to word, but not from row to row. One value: how many were written.
- * The records behind them stay as they were. With a refusal none is written, and the value is 0. Where it is accepted, mavrihkel_region_sums of the written runs are the mask's sums.
+ * The records behind them stay as they were. With a refusal none is written, and the value is 0. Where it is accepted, mavrihkel_region_totals of the written runs are the mask's totals.
  *   31  the length is no multiple of 16, or is over 16,384 (1,024 rows)
  *   8   there would be more than 4,096 runs, or more than `runs_length`; a list of 4,096 never is too short
  */

@@ -1,12 +1,14 @@
 //! Safe functions over the proved static library `exports`. The numbers of refusals, the units and the order of the totals are document 01's, those of masks document 02's.
 //!
+//! A cell is its ground: the cell in column x of row y is the square from (x, y) to (x + 1, y + 1). So cells answer the `Totals` that an outline does (document 02, CR 2), and `outline_centroid` gives their centre. The functions of before, `region_sums` and `mask_sums`, answered sums over cells as points; they are gone.
+//!
 //! The proofs end at the static library: that the declarations in `linked` fit it is tested (`tests/compare`) and not proved.
 mod refusal;
 
 use refusal::other_version;
 pub use refusal::{Refusal, RegionRefusal};
 
-/// The six totals of an outline, in decimetres to the power 2, 3 and 4: multiples of the area, of the first and of the second moments.
+/// The six totals of an outline, or of the ground under cells, in decimetres to the power 2, 3 and 4: multiples of the area, of the first and of the second moments.
 #[derive(Clone, Copy, Debug, PartialEq, Eq)]
 pub struct Totals {
     pub a2: i64,
@@ -42,17 +44,6 @@ pub struct Run {
     pub row: u32,
     pub first: u32,
     pub length: u32,
-}
-
-/// The six sums of a region over its cells: of 1, x, y, x², xy and y², where x is a cell's column and y its row.
-#[derive(Clone, Copy, Debug, PartialEq, Eq)]
-pub struct CellSums {
-    pub count: i64,
-    pub x: i64,
-    pub y: i64,
-    pub xx: i64,
-    pub xy: i64,
-    pub yy: i64,
 }
 
 /// The answer of a call whose buffer is too short. No refusal of document 01 or 02 has this number.
@@ -97,14 +88,14 @@ mod linked {
             out_length: usize,
         ) -> u32;
 
-        pub fn mavrihkel_region_sums(
+        pub fn mavrihkel_region_totals(
             runs: *const Run,
             runs_length: usize,
             out: *mut i64,
             out_length: usize,
         ) -> u32;
 
-        pub fn mavrihkel_mask_sums(
+        pub fn mavrihkel_mask_totals(
             words: *const u64,
             words_length: usize,
             out: *mut i64,
@@ -172,16 +163,20 @@ pub fn outline_centroid_into(t: Totals, out: &mut [i64]) -> u32 {
     }
 }
 
-/// Writes the six sums to the first six entries and the index with 6 and 7 to the seventh, 0 with any other answer, in the same way.
-pub fn region_sums_into(runs: &[Run], out: &mut [i64]) -> u32 {
+/// Writes the six totals of the ground under the runs to the first six entries and the index with 6 and 7 to the seventh, 0 with any other answer, in the same way.
+pub fn region_totals_into(runs: &[Run], out: &mut [i64]) -> u32 {
     // Sound, as above.
-    unsafe { linked::mavrihkel_region_sums(runs.as_ptr(), runs.len(), out.as_mut_ptr(), out.len()) }
+    unsafe {
+        linked::mavrihkel_region_totals(runs.as_ptr(), runs.len(), out.as_mut_ptr(), out.len())
+    }
 }
 
-/// Writes the six sums of a mask's marked cells to the first six entries, in the same way.
-pub fn mask_sums_into(words: &[u64], out: &mut [i64]) -> u32 {
+/// Writes the six totals of the ground under a mask's marked cells to the first six entries, in the same way.
+pub fn mask_totals_into(words: &[u64], out: &mut [i64]) -> u32 {
     // Sound, as above.
-    unsafe { linked::mavrihkel_mask_sums(words.as_ptr(), words.len(), out.as_mut_ptr(), out.len()) }
+    unsafe {
+        linked::mavrihkel_mask_totals(words.as_ptr(), words.len(), out.as_mut_ptr(), out.len())
+    }
 }
 
 /// Writes a mask's runs to the front of the list, and how many there are to the first entry of `out`, 0 with a refusal. The list stays as it was with a refusal and with `SHORT_BUFFER`.
@@ -201,17 +196,22 @@ pub fn mask_runs_into(words: &[u64], runs: &mut [Run], out: &mut [i64]) -> u32 {
 
 // ---- the same as results
 
+fn totals_of(v: [i64; 6]) -> Totals {
+    let [a2, x6, y6, xx12, xy24, yy12] = v;
+    Totals {
+        a2,
+        x6,
+        y6,
+        xx12,
+        xy24,
+        yy12,
+    }
+}
+
 fn totals_or_refusal(number: u32, v: [i64; 6]) -> Result<Totals, Refusal> {
     match Refusal::of(number) {
         Some(refusal) => Err(refusal),
-        None => Ok(Totals {
-            a2: v[0],
-            x6: v[1],
-            y6: v[2],
-            xx12: v[3],
-            xy24: v[4],
-            yy12: v[5],
-        }),
+        None => Ok(totals_of(v)),
     }
 }
 
@@ -229,7 +229,7 @@ pub fn map_totals(m: AffineMap, t: Totals) -> Result<Totals, Refusal> {
     totals_or_refusal(number, v)
 }
 
-/// The centre of an outline or of a sheet, by its totals: whole decimetres, halves rounded up.
+/// The centre of an outline, of a sheet or of cells, by its totals: whole decimetres, halves rounded up.
 pub fn outline_centroid(t: Totals) -> Result<Centre, Refusal> {
     let mut v = [0; 2];
     let number = outline_centroid_into(t, &mut v);
@@ -239,25 +239,13 @@ pub fn outline_centroid(t: Totals) -> Result<Centre, Refusal> {
     }
 }
 
-fn cell_sums(v: [i64; 6]) -> CellSums {
-    let [count, x, y, xx, xy, yy] = v;
-    CellSums {
-        count,
-        x,
-        y,
-        xx,
-        xy,
-        yy,
-    }
-}
-
-/// The six sums of the region that the runs make up.
-pub fn region_sums(runs: &[Run]) -> Result<CellSums, RegionRefusal> {
+/// The six totals of the ground under the cells of the runs; all of them are 0 where there is no run.
+pub fn region_totals(runs: &[Run]) -> Result<Totals, RegionRefusal> {
     let mut v = [0; 7];
-    let number = region_sums_into(runs, &mut v);
-    let [sums @ .., index] = v;
+    let number = region_totals_into(runs, &mut v);
+    let [six @ .., index] = v;
     match number {
-        0 => Ok(cell_sums(sums)),
+        0 => Ok(totals_of(six)),
         6 => Err(RegionRefusal::BadRun(index as usize)),
         7 => Err(RegionRefusal::OutOfOrder(index as usize)),
         8 => Err(RegionRefusal::TooManyRuns),
@@ -265,17 +253,14 @@ pub fn region_sums(runs: &[Run]) -> Result<CellSums, RegionRefusal> {
     }
 }
 
-/// The six sums of a mask's marked cells: 16 words a row, rows 0 upwards; bit i of a row's word w, from the lowest, is column 64w + i. Refused with 31 where the number of words is no multiple of 16 or is over 16,384.
-pub fn mask_sums(words: &[u64]) -> Result<CellSums, Refusal> {
+/// The six totals of the ground under a mask's marked cells: 16 words a row, rows 0 upwards; bit i of a row's word w, from the lowest, is column 64w + i. Refused with 31 where the number of words is no multiple of 16 or is over 16,384.
+pub fn mask_totals(words: &[u64]) -> Result<Totals, Refusal> {
     let mut v = [0; 6];
-    let number = mask_sums_into(words, &mut v);
-    match Refusal::of(number) {
-        Some(refusal) => Err(refusal),
-        None => Ok(cell_sums(v)),
-    }
+    let number = mask_totals_into(words, &mut v);
+    totals_or_refusal(number, v)
 }
 
-/// Writes the longest possible runs of a mask's marked cells to the front of the list, in order, and gives how many there are. The runs behind them stay as they were, and so do all with a refusal: 31 as for the sums, or 8 where there are more than 4,096 runs or more than the list holds. A list of 4,096 never is too short.
+/// Writes the longest possible runs of a mask's marked cells to the front of the list, in order, and gives how many there are. The runs behind them stay as they were, and so do all with a refusal: 31 as for the totals, or 8 where there are more than 4,096 runs or more than the list holds. A list of 4,096 never is too short.
 pub fn mask_runs(words: &[u64], runs: &mut [Run]) -> Result<usize, Refusal> {
     let mut v = [0; 1];
     let number = mask_runs_into(words, runs, &mut v);

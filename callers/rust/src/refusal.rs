@@ -54,7 +54,7 @@ impl Refusal {
                 "there are more than 4,096 runs, or more than the list to be filled holds"
             }
             Refusal::CentreOutsideLimits => {
-                "the totals or sums that a centre is wanted of are outside their limits"
+                "a total that a centre is wanted of is over 10^18 in size"
             }
             Refusal::NoArea => "the area is 0, so there is no centre",
             Refusal::WrongMaskLength => {
@@ -72,7 +72,7 @@ impl fmt::Display for Refusal {
 
 impl Error for Refusal {}
 
-/// Why a list of runs has no sums: refusal 6 or 7 with the index, from 0, of a run that breaks the rule, or 8.
+/// Why a list of runs has no totals: refusal 6 or 7 with the index, from 0, of a run that breaks the rule, or 8.
 #[derive(Clone, Copy, Debug, PartialEq, Eq)]
 pub enum RegionRefusal {
     BadRun(usize),

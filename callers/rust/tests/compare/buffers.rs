@@ -1,8 +1,8 @@
 //! The whole buffer after each call, whatever its length.
 use crate::{affine_map, runs_of, totals};
 use mavrihkel::{
-    map_totals_into, mask_runs_into, mask_sums_into, outline_centroid_into, outline_totals_into,
-    region_sums_into, SHORT_BUFFER,
+    map_totals_into, mask_runs_into, mask_totals_into, outline_centroid_into, outline_totals_into,
+    region_totals_into, SHORT_BUFFER,
 };
 
 const UNIT_SQUARE: [i32; 8] = [0, 0, 1, 0, 1, 1, 0, 1];
@@ -60,23 +60,23 @@ fn centre_call() {
 fn region_call() {
     let call = |runs: &[[u32; 3]]| {
         let runs = runs_of(runs);
-        move |out: &mut [i64]| region_sums_into(&runs, out)
+        move |out: &mut [i64]| region_totals_into(&runs, out)
     };
     leaves_the_rest(call(&[]), 0, &[0; 7]);
-    leaves_the_rest(call(&[[3, 2, 3]]), 0, &[3, 9, 9, 29, 27, 27, 0]);
+    leaves_the_rest(call(&[[3, 2, 3]]), 0, &[6, 63, 63, 468, 882, 444, 0]);
     leaves_the_rest(call(&[[3, 2, 3], [3, 2, 0]]), 6, &[0, 0, 0, 0, 0, 0, 1]);
     leaves_the_rest(call(&[[3, 2, 3], [3, 4, 1]]), 7, &[0, 0, 0, 0, 0, 0, 1]);
     leaves_the_rest(call(&[[3, 2, 0]; 4097]), 8, &[0; 7]);
 }
 
 #[test]
-fn mask_sums_call() {
+fn mask_totals_call() {
     let call = |words: &[u64]| {
         let words = words.to_vec();
-        move |out: &mut [i64]| mask_sums_into(&words, out)
+        move |out: &mut [i64]| mask_totals_into(&words, out)
     };
     leaves_the_rest(call(&[]), 0, &[0; 6]);
-    leaves_the_rest(call(&[6; 16]), 0, &[32, 15408, 0, 10204240, 0, 0]);
+    leaves_the_rest(call(&[6; 16]), 0, &[64, 92544, 96, 122635904, 185088, 128]);
     leaves_the_rest(call(&[6; 15]), 31, &[0; 6]);
 }
 

@@ -1,4 +1,4 @@
-//! The static library beside an independent implementation of document 01 and of document 02's masks, on seeded inputs: long and short, valid and damaged.
+//! The static library beside an independent implementation of document 01 and of document 02's cells and masks, on seeded inputs: long and short, valid and damaged.
 mod buffers;
 mod centres;
 mod inputs;

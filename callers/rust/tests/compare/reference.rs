@@ -1,4 +1,4 @@
-//! Document 01 and the masks of document 02 in 128-bit integers, written from the papers: each outcome is a number, 0 if accepted, and its values, zeros with a refusal.
+//! Document 01, and cells and masks as document 02 has them, in 128-bit integers, written from the papers: each outcome is a number, 0 if accepted, and its values, zeros with a refusal.
 
 pub type Outcome<const N: usize> = (u32, [i128; N]);
 
@@ -32,6 +32,16 @@ fn edge((x, y): (i128, i128), (p, q): (i128, i128)) -> [i128; 6] {
     ]
 }
 
+/// Adds the edge terms round an outline, the closing edge too.
+fn add_outline(totals: &mut [i128; 6], points: &[(i128, i128)]) {
+    for (k, &start) in points.iter().enumerate() {
+        let end = points[(k + 1) % points.len()];
+        for (total, term) in totals.iter_mut().zip(edge(start, end)) {
+            *total += term;
+        }
+    }
+}
+
 pub fn list_call(numbers: &[i32]) -> Outcome<6> {
     let points: Vec<(i128, i128)> = numbers
         .chunks_exact(2)
@@ -48,12 +58,7 @@ pub fn list_call(numbers: &[i32]) -> Outcome<6> {
         return refused(1);
     }
     let mut totals = [0; 6];
-    for (k, &start) in points.iter().enumerate() {
-        let end = points[(k + 1) % points.len()];
-        for (total, term) in totals.iter_mut().zip(edge(start, end)) {
-            *total += term;
-        }
-    }
+    add_outline(&mut totals, &points);
     (0, totals)
 }
 
@@ -123,7 +128,12 @@ pub fn centre_call(totals: [i128; 6]) -> Outcome<2> {
     )
 }
 
-/// A run is row, first column, length. The six sums go cell by cell. The last part has every index that may be given: with 6 and 7 that of any run that breaks it.
+/// Adds the totals of the cell in column x of row y: those of the outline round its square, anticlockwise.
+fn add_cell(totals: &mut [i128; 6], x: i128, y: i128) {
+    add_outline(totals, &[(x, y), (x + 1, y), (x + 1, y + 1), (x, y + 1)]);
+}
+
+/// A run is row, first column, length. The six totals go cell by cell. The last part has every index that may be given: with 6 and 7 that of any run that breaks it.
 pub fn region_call(runs: &[[u32; 3]]) -> (u32, [i128; 6], Vec<usize>) {
     if runs.len() > 4096 {
         return (8, [0; 6], vec![0]);
@@ -143,16 +153,13 @@ pub fn region_call(runs: &[[u32; 3]]) -> (u32, [i128; 6], Vec<usize>) {
     if !seven.is_empty() {
         return (7, [0; 6], seven);
     }
-    let mut sums = [0; 6];
+    let mut totals = [0; 6];
     for &[row, first, length] in runs {
         for column in first..first + length {
-            let (x, y) = (i128::from(column), i128::from(row));
-            for (sum, term) in sums.iter_mut().zip([1, x, y, x * x, x * y, y * y]) {
-                *sum += term;
-            }
+            add_cell(&mut totals, i128::from(column), i128::from(row));
         }
     }
-    (0, sums, vec![0])
+    (0, totals, vec![0])
 }
 
 /// A mask is refused by its length alone.
@@ -168,19 +175,17 @@ fn marked(words: &[u64]) -> Vec<[bool; 1024]> {
         .collect()
 }
 
-pub fn mask_sums_call(words: &[u64]) -> Outcome<6> {
+pub fn mask_totals_call(words: &[u64]) -> Outcome<6> {
     if wrong_length(words) {
         return refused(31);
     }
-    let mut sums = [0; 6];
+    let mut totals = [0; 6];
     for (y, row) in (0..).zip(marked(words)) {
-        for (x, cell) in (0..).zip(row) {
-            for (sum, term) in sums.iter_mut().zip([1, x, y, x * x, x * y, y * y]) {
-                *sum += if cell { term } else { 0 };
-            }
+        for (x, _) in (0..).zip(row).filter(|(_, cell)| *cell) {
+            add_cell(&mut totals, x, y);
         }
     }
-    (0, sums)
+    (0, totals)
 }
 
 /// The longest runs, in order: a marked cell belongs to the run of the cell before it in its row, or begins one.

@@ -1,6 +1,6 @@
 //! Refusals as numbers, as texts and as errors.
 use crate::runs_of;
-use mavrihkel::{outline_centroid, outline_totals, region_sums, Centre, Refusal, RegionRefusal};
+use mavrihkel::{outline_centroid, outline_totals, region_totals, Centre, Refusal, RegionRefusal};
 use std::collections::BTreeSet;
 use std::error::Error;
 use std::fs;
@@ -101,8 +101,8 @@ fn centre_of(points: &[i32]) -> Result<Centre, Box<dyn Error>> {
     Ok(outline_centroid(outline_totals(points)?)?)
 }
 
-fn cells_of(runs: &[[u32; 3]]) -> Result<i64, Box<dyn Error>> {
-    Ok(region_sums(&runs_of(runs))?.count)
+fn centre_of_cells(runs: &[[u32; 3]]) -> Result<Centre, Box<dyn Error>> {
+    Ok(outline_centroid(region_totals(&runs_of(runs))?)?)
 }
 
 /// The question mark hands a refusal on as an error, with its text and the refusal itself.
@@ -116,8 +116,11 @@ fn errors() {
     let no_area = centre_of(&[5, 7, 5, 7, 5, 7]).expect_err("no area");
     assert_eq!(no_area.downcast_ref(), Some(&Refusal::NoArea));
 
-    assert_eq!(cells_of(&[[3, 2, 3]]).expect("accepted"), 3);
-    let bad = cells_of(&[[3, 2, 3], [1024, 0, 1]]).expect_err("row 1,024");
+    let centre = centre_of_cells(&[[3, 2, 3]]).expect("accepted");
+    assert_eq!(centre, Centre { x: 4, y: 4 });
+    let no_cells = centre_of_cells(&[]).expect_err("no cells");
+    assert_eq!(no_cells.downcast_ref(), Some(&Refusal::NoArea));
+    let bad = centre_of_cells(&[[3, 2, 3], [1024, 0, 1]]).expect_err("row 1,024");
     assert_eq!(bad.downcast_ref(), Some(&RegionRefusal::BadRun(1)));
     assert_eq!(bad.to_string(), RegionRefusal::BadRun(1).to_string());
 }

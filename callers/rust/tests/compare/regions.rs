@@ -1,17 +1,17 @@
 use crate::inputs::{damaged_region, region, Random};
 use crate::{narrow, reference, runs_of, Met};
-use mavrihkel::region_sums_into;
+use mavrihkel::{outline_totals, region_totals, region_totals_into};
 
 fn compare(runs: &[[u32; 3]], met: &mut Met) {
-    let (number, sums, indices) = reference::region_call(runs);
+    let (number, wanted, indices) = reference::region_call(runs);
     let mut out = [-1; 7];
     let named = format!("{} runs, {:?} ..", runs.len(), &runs[..runs.len().min(4)]);
     assert_eq!(
-        region_sums_into(&runs_of(runs), &mut out),
+        region_totals_into(&runs_of(runs), &mut out),
         number,
         "{named}"
     );
-    assert_eq!(out[..6], narrow(sums), "{named}");
+    assert_eq!(out[..6], narrow(wanted), "{named}");
     let index = usize::try_from(out[6]).expect("an index is not negative");
     assert!(indices.contains(&index), "{named}: {index}");
     met.count(number);
@@ -93,7 +93,7 @@ fn six_before_seven() {
     met.each_of(&[6, 7], 1);
 }
 
-/// The largest sums: the whole grid, in full rows and in quarters.
+/// The largest totals: the whole grid, in full rows and in quarters; and those of an outline round it.
 #[test]
 fn the_whole_grid() {
     let mut met = Met::default();
@@ -102,4 +102,20 @@ fn the_whole_grid() {
     compare(&rows, &mut met);
     compare(&quarters, &mut met);
     met.each_of(&[0], 2);
+    let outline = outline_totals(&[0, 0, 1024, 0, 1024, 1024, 0, 1024]);
+    assert_eq!(region_totals(&runs_of(&rows)).ok(), outline.ok());
+}
+
+/// The ground under a run is a rectangle: the list call answers the same for its corners.
+#[test]
+fn one_run_and_the_outline_round_it() {
+    let mut random = Random::seeded(16);
+    for _ in 0..2_000 {
+        let run = region(&mut random, 1);
+        let [y, west, length] = run[0].map(|z| z as i32);
+        let east = west + length;
+        let corners = [west, y, east, y, east, y + 1, west, y + 1];
+        let outline = outline_totals(&corners).expect("an outline");
+        assert_eq!(region_totals(&runs_of(&run)), Ok(outline), "{run:?}");
+    }
 }

@@ -1,8 +1,8 @@
-//! Document 01's plots worked by hand, through the functions that give results.
+//! Document 01's plots worked by hand and document 02's regions, through the functions that give results.
 use crate::{affine_map, runs_of, totals};
 use mavrihkel::{
-    map_totals, mask_runs, mask_sums, outline_centroid, outline_totals, region_sums, CellSums,
-    Centre, Refusal, RegionRefusal,
+    map_totals, mask_runs, mask_totals, outline_centroid, outline_totals, region_totals, Centre,
+    Refusal, RegionRefusal,
 };
 
 #[test]
@@ -28,26 +28,31 @@ fn plots() {
     assert_eq!(outline_centroid(west), Ok(Centre { x: 0, y: 1 }));
 }
 
+/// Totals and centre. Sums over cells as points would have the run's centre at (3, 3); totals of the box round the L, six cells.
 #[test]
-fn region() {
-    let sums = CellSums {
-        count: 3,
-        x: 9,
-        y: 9,
-        xx: 29,
-        xy: 27,
-        yy: 27,
-    };
-    assert_eq!(region_sums(&runs_of(&[[3, 2, 3]])), Ok(sums));
+fn regions() {
+    let run = totals([6, 63, 63, 468, 882, 444]);
+    assert_eq!(region_totals(&runs_of(&[[3, 2, 3]])), Ok(run));
+    assert_eq!(outline_centroid(run), Ok(Centre { x: 4, y: 4 }));
+
+    let l_shape = totals([8, 30, 18, 112, 72, 40]);
+    let runs = runs_of(&[[0, 0, 3], [1, 0, 1]]);
+    assert_eq!(region_totals(&runs), Ok(l_shape));
+    assert_eq!(outline_centroid(l_shape), Ok(Centre { x: 1, y: 1 }));
+
+    let nothing = totals([0; 6]);
+    assert_eq!(region_totals(&[]), Ok(nothing));
+    assert_eq!(mask_totals(&[]), Ok(nothing));
+    assert_eq!(outline_centroid(nothing), Err(Refusal::NoArea));
 }
 
 #[test]
 fn region_refusals() {
-    let row_1024 = region_sums(&runs_of(&[[3, 2, 3], [1024, 0, 1]]));
+    let row_1024 = region_totals(&runs_of(&[[3, 2, 3], [1024, 0, 1]]));
     assert_eq!(row_1024, Err(RegionRefusal::BadRun(1)));
-    let overlap = region_sums(&runs_of(&[[3, 2, 3], [4, 0, 1], [4, 0, 1]]));
+    let overlap = region_totals(&runs_of(&[[3, 2, 3], [4, 0, 1], [4, 0, 1]]));
     assert_eq!(overlap, Err(RegionRefusal::OutOfOrder(2)));
-    let many = region_sums(&runs_of(&[[3, 2, 3]; 4097]));
+    let many = region_totals(&runs_of(&[[3, 2, 3]; 4097]));
     assert_eq!(many, Err(RegionRefusal::TooManyRuns));
 }
 
@@ -57,7 +62,7 @@ fn mask_refusals() {
     let before = list.clone();
     for length in [15, 17, 16_400] {
         let words = vec![u64::MAX; length];
-        assert_eq!(mask_sums(&words), Err(Refusal::WrongMaskLength));
+        assert_eq!(mask_totals(&words), Err(Refusal::WrongMaskLength));
         assert_eq!(mask_runs(&words, &mut list), Err(Refusal::WrongMaskLength));
     }
     let mut words = vec![0x5555_5555_5555_5555; 8 * 16];

@@ -1,11 +1,11 @@
-//! The region call. Both go over the runs once, test each and its order, and add its sums by closed formulas.
+//! The region call. Both go over the runs once and test each and its order. The loop in Rust adds each run's sums of 1, x, y, x², xy and y² over its cells by closed formulas, and makes the six totals of them once, at the end.
 use crate::{agree, least_times, Call, Numbers};
-use mavrihkel::{region_sums_into, Run};
+use mavrihkel::{region_totals_into, Run};
 
 const RUNS_A_ROUND: usize = 200_000;
 
 fn library(runs: &[Run], out: &mut [i64; 7]) -> u32 {
-    region_sums_into(runs, out)
+    region_totals_into(runs, out)
 }
 
 /// 0 + 1 + .. + (k - 1). Where k is 0, what wraps is multiplied by 0; of the forms tried, this was the fastest.
@@ -16,6 +16,18 @@ fn index_sum(k: u64) -> u64 {
 /// 0² + 1² + .. + (k - 1)².
 fn square_sum(k: u64) -> u64 {
     k * k.wrapping_sub(1) * (2 * k).wrapping_sub(1) / 6
+}
+
+/// The totals of the ground under cells, by their sums.
+fn totals_of([count, x, y, xx, xy, yy]: [u64; 6]) -> [u64; 6] {
+    [
+        2 * count,
+        6 * x + 3 * count,
+        6 * y + 3 * count,
+        12 * (xx + x) + 4 * count,
+        24 * xy + 12 * (x + y) + 6 * count,
+        12 * (yy + y) + 4 * count,
+    ]
 }
 
 #[inline(never)]
@@ -53,8 +65,8 @@ fn loop_over_runs(runs: &[Run], out: &mut [i64; 7]) -> u32 {
         out[6] = i as i64;
         return 7;
     }
-    for (value, sum) in out.iter_mut().zip(sums) {
-        *value = sum as i64;
+    for (value, total) in out.iter_mut().zip(totals_of(sums)) {
+        *value = total as i64;
     }
     0
 }
