@@ -1,14 +1,15 @@
 """Recomputes what the pages say: python3 docs/check.py [--plots PROGRAM]. Prints what is wrong and exits 1.
 
-In NUMBERS.md and CASES.md every figure must be one that is recomputed:
+In NUMBERS.md, CASES.md and CASES-CELLS.md every figure must be one that is recomputed:
 - a fenced block `input` (with a file's name, the file's own text) and the block `output` after it: what the program
   and the second program print;
 - a code span with =, ≤, < or ≈: its sides, by exact fractions. A decimal after = is exact; one after ≈ is rounded to
   the places that it has. Its names stand for the figures of the line that the last comment `figures:` names, of the
   last block or of an example file, and it does not end in a fraction; before the first such comment under a heading
   it is a general formula, and is tried on every line of the page and on made-up outlines, regions and bits of masks;
-- a table after a comment `terms`, `map`, `edges`, `loops`, `test`, `trial` or `answers`; a block `runs`, `mask` or
-  `map`. A block `runs` that follows a block `mask` has the runs that the second program writes for it.
+- a table after a comment `terms`, `map`, `edges`, `loops`, `test`, `trial`, `answers`, `ground`, `cells` or `regions`;
+  a block `runs`, `mask` or `map`. A block `runs` that follows a block `mask` has the runs that the second program
+  writes for it.
 A digit anywhere else is an error. A comment `crosses:`, `plain:` or `same:` says what the outlines of the lines that it
 names are. README.md: its example, its limits and its command for other units. REFUSALS.md: the numbers.
 ARCHITECTURE.md: every crate, above all that it rests on. CLAIMS*.md: see claims.py. The pictures are made again and
@@ -24,6 +25,7 @@ sys.dont_write_bytecode = True
 DOCS = Path(__file__).resolve().parent
 ROOT = DOCS.parent
 sys.path.insert(0, str(ROOT / "second"))
+import cells  # noqa: E402
 import claims  # noqa: E402
 import figures  # noqa: E402
 import masks  # noqa: E402
@@ -31,7 +33,8 @@ import moves  # noqa: E402
 import pictures  # noqa: E402
 import text  # noqa: E402
 from crates import listed_crates  # noqa: E402
-from page import Page, expect, wrong  # noqa: E402
+from differences import expect, wrong  # noqa: E402
+from page import Page  # noqa: E402
 
 PRINTED_REFUSALS = [1, 9, 10, *range(21, 27)]
 OTHER_REFUSALS = [*range(2, 9), 11, 27, 28, 31]
@@ -42,8 +45,8 @@ LIMITS = {
     "each total of a sheet": "-10^18 to 10^18" if figures.TOTAL_LIMIT == 10 ** 18 else "",
     "a map's a, b, g, h": f"-{moves.COEFFICIENT_LIMIT} to {moves.COEFFICIENT_LIMIT}",
     "a map's e, f": f"-{moves.SHIFT_LIMIT:,} to {moves.SHIFT_LIMIT:,}",
-    "rows and columns of cells": f"0 to {figures.GRID_SIDE - 1:,}",
-    "runs of a region": f"at most {figures.MOST_RUNS:,}",
+    "rows and columns of cells": f"0 to {cells.GRID_SIDE - 1:,}",
+    "runs of a region": f"at most {cells.MOST_RUNS:,}",
     "words of a mask": f"a multiple of {masks.WORDS_IN_A_ROW}, at most {masks.MOST_WORDS:,}",
     "lines of the input": f"at most {text.MOST_LINES:,}",
     "bytes of the input": f"at most {text.MOST_BYTES:,}",
@@ -134,7 +137,7 @@ def main():
     parser = argparse.ArgumentParser(description="Recomputes what the pages say.")
     parser.add_argument("--plots", type=Path, default=ROOT / "target" / "bin" / "plots", help="the program to run")
     plots = parser.parse_args().plots.resolve()
-    for name in ("NUMBERS.md", "CASES.md"):
+    for name in ("NUMBERS.md", "CASES.md", "CASES-CELLS.md"):
         Page(DOCS / name, plots).check()
     check_readme(plots)
     check_refusals()

@@ -2,7 +2,7 @@
 import re
 from pathlib import Path
 
-from page import expect
+from differences import expect
 
 ROOT = Path(__file__).resolve().parent.parent
 CRATES = ROOT / "crates"

@@ -1,4 +1,4 @@
-"""Exact figures of outlines and cells, and the formulas of the pages evaluated on them.
+"""Exact figures of outlines and of the ground under cells, and the formulas of the pages evaluated on them.
 
 The integrals are taken over triangles, by their midpoints, and not by the edge terms of document 01, so that a
 page that says which integral a total is gets checked by another way than the one the total was made by.
@@ -10,6 +10,7 @@ import re
 from fractions import Fraction
 
 TOTALS = ("A2", "X6", "Y6", "XX12", "XY24", "YY12")
+MULTIPLES = (2, 6, 6, 12, 24, 12)    # of the integrals below, in their order
 INTEGRANDS = {"area": lambda x, y: 1, "∫x": lambda x, y: x, "∫y": lambda x, y: y,
               "∫x²": lambda x, y: x * x, "∫xy": lambda x, y: x * y, "∫y²": lambda x, y: y * y}
 PRINTED = ("points", *TOTALS, "centre x", "centre y")
@@ -55,14 +56,14 @@ def outline_figures(outlines):
 
 
 def region_figures(runs):
-    """The six sums of the cells of runs (row, first column, length), cell by cell, and what follows from them."""
-    cells = {(column, row) for row, first, length in runs for column in range(first, first + length)}
-    figures = {name: Fraction(sum(INTEGRANDS[f](x, y) for x, y in cells)) for name, f in SUMS.items()}
+    """The figures of the ground under runs (row, first column, length), a square for each cell; the six sums of the cells' indices."""
+    cells = sorted({(column, row) for row, first, length in runs for column in range(first, first + length)})
+    squares = [[(x, y), (x + 1, y), (x + 1, y + 1), (x, y + 1)] for x, y in cells]
+    figures = outline_figures(squares) | {"of": squares}
+    figures |= {name: Fraction(sum(INTEGRANDS[f](x, y) for x, y in cells)) for name, f in SUMS.items()}
+    figures |= {total: multiple * figures[name] for total, multiple, name in zip(TOTALS, MULTIPLES, INTEGRANDS)}
     if cells:
-        x, y = figures["Σx"] / len(cells), figures["Σy"] / len(cells)
-        figures |= {"exact x": x, "exact y": y, "centre x": half_up(x), "centre y": half_up(y)}
-        for name, moment in CENTRAL.items():
-            figures[name] = sum(INTEGRANDS[moment](s - x, t - y) for s, t in cells)
+        figures |= {"centre x": half_up(figures["exact x"]), "centre y": half_up(figures["exact y"])}
     return figures
 
 

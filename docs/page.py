@@ -9,22 +9,19 @@ import crossings
 import exact
 import figures
 import moves
+import page_cells
 import page_masks
 import pictures
 import text
+from differences import expect
 
 ROOT = Path(__file__).resolve().parent.parent
 SEED = 7
 MADE_UP = 100
-ALLOWED = re.compile(r"\b(A2|X6|Y6|XX12|XY24|YY12|[Dd]ocument 01|document 000|[Rr]efusal (8|10|27|31))\b")
+ALLOWED = re.compile(r"\b(A2|X6|Y6|XX12|XY24|YY12|[Dd]ocument 0[12]|document 000|CR 2|[Rr]efusal (8|10|27|31))\b")
 POINT = re.compile(r"\((-?\d+), (-?\d+)\)")
-wrong = []
-
-
-def expect(right, where, what):
-    """Counts a difference."""
-    if not right:
-        wrong.append(f"{where}: {what}")
+# Of the tables that are recomputed in part: the cells of a row that are read as text.
+AS_TEXT = {"test": slice(1, None), "ground": slice(3, None), "regions": slice(1)}
 
 
 # Figures by name
@@ -73,17 +70,8 @@ def made_up():
         a, b, g, h = (chance.randint(-2, 2) for _ in range(4))
         cases.append({"a": a, "b": b, "g": g, "h": h, "d": exact.integral(exact.INTEGRANDS["area"], [[(0, 0), (a, g), (a + b, g + h), (b, h)]])})
         row, first, length = chance.randint(0, 9), chance.randint(0, 9), chance.randint(1, 9)
-        cases.append(region([(row, first, length), (row + 1, first + 2, length)]))
+        cases.append(page_cells.region([(row, first, length), (row + 1, first + 2, length)]))
     return cases + page_masks.made_up_bits(chance, MADE_UP)
-
-
-def region(runs):
-    """The figures of a region, its sums and centre held to the second program's."""
-    found = exact.region_figures(runs)
-    number, _, sums = figures.region_sums([figures.Run(*run) for run in runs])
-    expect(number == 0 and list(sums) == [found[name] for name in exact.SUMS], "a region", f"{runs} has other sums")
-    expect(figures.centre_of_cells(sums)[1:] == (found["centre x"], found["centre y"]), "a region", f"{runs} has another centre")
-    return found
 
 
 # A page
@@ -126,11 +114,11 @@ class Page:
                 given = affine = None
             elif kind == "runs":
                 runs = [tuple(map(int, line.split("\t"))) for line in body.splitlines()]
-                self.blocks[last] = {"region": region(runs)}
+                self.blocks[last] = {"region": page_cells.region(runs)}
                 self.general += self.blocks[last].values()
                 if mask is not None:
-                    sums = tuple(self.blocks[last]["region"][name] for name in exact.SUMS)
-                    expect((runs, sums) == page_masks.runs_and_sums(mask), self.at(number), f"the mask has {page_masks.runs_and_sums(mask)}")
+                    totals = tuple(self.blocks[last]["region"][name] for name in exact.TOTALS)
+                    expect((runs, totals) == page_masks.runs_and_totals(mask), self.at(number), f"the mask has {page_masks.runs_and_totals(mask)}")
                 mask = None
             elif kind == "mask":
                 mask = self.mask = page_masks.words_of(body)
@@ -175,10 +163,10 @@ class Page:
                 table.append([cell.strip() for cell in line.strip("|").split("|")])
                 if not self.lines[number + 1].startswith("|"):
                     getattr(self, "table_" + table[0])(number, table[1:], now)
-                if table[0] in ("edges", "loops", "trial", "answers"):
+                if table[0] in ("edges", "loops", "trial", "answers", "cells"):
                     continue
-                if table[0] == "test":
-                    line = "|".join(table[-1][1:])
+                if table[0] in AS_TEXT:
+                    line = "|".join(table[-1][AS_TEXT[table[0]]])
             elif table and len(table) > 1:
                 table = None
             self.spans(number, line, now)
@@ -287,3 +275,22 @@ class Page:
         """What both calls on masks answer for the last block `mask` and for other masks."""
         answered = [page_masks.answers_row(self.mask, row[0], row[3]) for row in rows[2:]]
         expect(rows[2:] == answered, self.at(number), f"the calls answer {answered}")
+
+    def table_ground(self, number, rows, _):
+        """The terms of a cell and the formulas for all cells give the totals of every region."""
+        regions = [known for known in self.general if "Σx" in known]
+        expect([row[0] for row in rows[2:]] == list(exact.TOTALS), self.at(number), "other totals")
+        expect(all(page_cells.is_square(rows[0][1], found) for found in regions), self.at(number), "not the square of a cell")
+        for name, term, formula, *_ in rows[2:]:
+            right = all(page_cells.gives_ground(name, term.strip("`"), formula.strip("`"), found) for found in regions)
+            expect(right, self.at(number), f"not {name} of every region: {term}, {formula}")
+
+    def table_cells(self, number, rows, now):
+        """The cells of the named region in turn, each with the totals of its corners, and their sums."""
+        expected = page_cells.cell_rows([cell.strip("`") for cell in rows[0][1:]], now)
+        expect(rows[2:] == expected, self.at(number), f"the cells are {expected}")
+
+    def table_regions(self, number, rows, _):
+        """What the call on runs answers for each region, and the centre of its totals."""
+        answered = [page_cells.region_row(*row[:2]) for row in rows[2:]]
+        expect(rows[2:] == answered, self.at(number), f"the call answers {answered}")

@@ -1,6 +1,6 @@
 """The masks of a page: the lines of a block `mask`, the rows of a table `answers`, and made-up bits. See check.py."""
 import masks
-from figures import Run
+from cells import Run
 from masks import MOST_WORDS, WORD_BITS, WORDS_IN_A_ROW
 from worked import MOST_MASK_RUNS, ONE_RUN_MORE
 
@@ -33,9 +33,9 @@ def block_of(words):
     return "".join(lines)
 
 
-def runs_and_sums(words):
-    """The runs that are written for a mask, and its sums."""
-    return masks.longest_runs(words), masks.mask_sums(words)[1]
+def runs_and_totals(words):
+    """The runs that are written for a mask, and its totals."""
+    return masks.longest_runs(words), masks.mask_totals(words)[1]
 
 
 def answers_row(above, label, room):
@@ -49,9 +49,9 @@ def answers_row(above, label, room):
         "a row more than the grid has": [0] * (MOST_WORDS + WORDS_IN_A_ROW),
     }[label]
     runs = "—" if masks.has_wrong_length(words) else f"{len(masks.longest_runs(words)):,}"
-    sums_number, sums = masks.mask_sums(words)
+    totals_number, totals = masks.mask_totals(words)
     number, written, _ = masks.mask_runs(words, [Run(0, 0, 0)] * int(room.replace(",", "")))
-    return [label, f"{len(words):,}", runs, room, str(sums_number), f"{sums.a:,}", str(number), f"{written:,}"]
+    return [label, f"{len(words):,}", runs, room, str(totals_number), f"{totals.a2:,}", str(number), f"{written:,}"]
 
 
 def made_up_bits(chance, count):
