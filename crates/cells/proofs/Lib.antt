@@ -10,4 +10,3 @@ pub mod WorkedRun
 pub mod RunLimits
 pub mod AllowedAnswers
 mod RegionUses
-mod WholeGrid
