@@ -71,21 +71,32 @@ module _ (c : tie.After-row-sums) where
   xx-is : toZ w32 (ofZ w32 (i64 (c .row-sums .result .xx))) ≡ sums .xx
   xx-is = passed-is (c .row-sums .result .xx) xx-small ∙ ap (λ s. s .xx) (c .row-sums .ensures)
 
+-- ---- where the sums of the row are known, from where each of them has been read
+
+abbrev of-count : tie.After-struct-told → tie.After-row-sums
+of-count c = c .before .before
+
+abbrev of-x : tie.After-struct-told2 → tie.After-row-sums
+of-x c = of-count (c .before .before)
+
+abbrev of-xx : tie.After-struct-told3 → tie.After-row-sums
+of-xx c = of-x (c .before .before)
+
 -- ---- the needs
 
 cast-count : tie.Need-cast-row-totals-2
-cast-count c = let at = c .before .before in subst (λ z. T (nonNeg z) × Fits w16 (natAbs z)) (sym (count-is at)) (tt, omega (arith, few at))
+cast-count c = let at = of-count c in subst (λ z. T (nonNeg z) × Fits w16 (natAbs z)) (sym (count-is at)) (tt, omega (arith, few at))
 
 cast-x : tie.Need-cast-row-totals-3
-cast-x c = let at = c .before .before .before .before in passed-fits (at .row-sums .result .x) (x-small at)
+cast-x c = let at = of-x c in passed-fits (at .row-sums .result .x) (x-small at)
 
 cast-xx : tie.Need-cast-row-totals-4
-cast-xx c = let at = c .before .before .before .before .before .before in passed-fits (at .row-sums .result .xx) (xx-small at)
+cast-xx c = let at = of-xx c in passed-fits (at .row-sums .result .xx) (xx-small at)
 
 returns : tie.Need-returns
 unfolding groundOf
 returns c =
-    let at = c .before .before .before .before .before .before .before in
+    let at = of-xx (c .before) in
     let row = entry at .args .row in
     c .row-totals .ensures ∙ (λ i. groundTotals (rowSums (pos row) (n-is at i) (x-is at i) (xx-is at i))) ∙ sym (ap groundTotals (row-of (entry at .args .words .now) row))
 
