@@ -37,7 +37,7 @@ CellByCell =
     (cs : List Cell)
     -- of the grid
     → AllInGrid cs
-    -- the totals of their ground are the sums, cell by cell, of what it answers for each cell's corners.
+    -- the totals of their ground are the sums, cell by cell, of what the call on a whole list answers for the corners.
     → groundOf cs ≡ squaresAdded cs
 
 -- What is claimed of the totals t of the ground under the cells cs.
@@ -59,7 +59,7 @@ EveryGround =
     (cs : List Cell)
     -- of the grid,
     → AllInGrid cs
-    -- no more than 4,096 runs of 1,024 cells have,
+    -- at most as many as 4,096 runs of 1,024 cells have,
     → length cs ≤ 4096 * 1024
     -- all this holds of the totals of their ground.
     → TotalsOfGround cs (groundOf cs)
