@@ -6,13 +6,16 @@ use Prim.Native.Nat.{ℕ, _≤_, _<_}
 use lib.Dec.{leb, ltb, eqb}
 use borrow.Author.Tests.{ltb-false, leb-false, eqb-false, not-false}
 use Rattle.outline.specs.declared.Position.{Position}
+use Rattle.outline.specs.declared.Kind.{Kind}
 use Rattle.outline.specs.declared.Walk.{Walk}
 use Rattle.outline.specs.declared.Sheet.{Sheet}
 use Rattle.outline.specs.EdgeSums.{plus, exceed}
 use Rattle.outline.specs.ListCall.{outside}
 use Rattle.outline.specs.MapCall.{totalLimits}
-use Rattle.outline.specs.WalkCalls.{opened, closed, extended, addedTotals, sheetWith, impossibleWalk, impossibleSheet, EndOutcome, refusedWalk, refusedEnd, beginCall, pointCall, endCall, abandonCall}
+use Rattle.outline.specs.WalkCalls.{opened, closed, extended, closedTotals, zeroArea, addedTotals, impossibleWalk, impossibleSheet, EndOutcome, refusedWalk, refusedEnd, beginCall, pointCall, endCall, abandonCall}
 use Rattle.outline.specs.CallLists.{Call, begin, point, end, abandon, numberOf, walkAfter, impossibleSheetIn}
+use Rattle.outline.specs.WalkedOutline.{Closable}
+use Rattle.outline.specs.EveryOutline.{endedWith}
 
 -- The number of a refusal: not 0, and 28 only where 28 refuses the walk or the sheet.
 pub record Refusal (impossible : Bool) (n : ℕ) : Type 0 where
@@ -28,31 +31,40 @@ other n e f = record { not-0 = eqb-false n 0 e; only-28 = λ g. eqb-false n 28 f
 -- ---- end
 
 pub record Ends (w : Walk) (s : Sheet) : Type 0 where
-  pub is-open : w .is_open ≡ true
-  pub enough : 3 ≤ w .count
+  pub closable : Closable w
+  pub area : zeroArea (closedTotals w) ≡ false
   pub room : s .count < 64
   pub within : exceed totalLimits (plus (s .totals) (addedTotals w)) ≡ false
 
 pub data EndCase (w : Walk) (s : Sheet) : EndOutcome → Type 0 where
   refused : (n : ℕ) → Refusal (impossibleWalk w || impossibleSheet s) n → EndCase w s (refusedEnd n w s)
-  accepted : Ends w s → EndCase w s (record { number = 0; totals = addedTotals w; walk = closed; sheet = sheetWith s (addedTotals w) })
+  accepted : Ends w s → EndCase w s (endedWith s (addedTotals w))
 
 pub end-case : (w : Walk) (s : Sheet) → EndCase w s (endCall w s)
 unfolding endCall
-end-case w s = go (impossibleWalk w || impossibleSheet s) (not (w .is_open)) (ltb (w .count) 3) (leb 64 (s .count)) (exceed totalLimits (plus (s .totals) (addedTotals w))) refl refl refl refl refl
+end-case w s = go (impossibleWalk w || impossibleSheet s) (not (w .is_open)) (ltb (w .count) 3) (zeroArea (closedTotals w)) (leb 64 (s .count)) (exceed totalLimits (plus (s .totals) (addedTotals w))) refl refl refl refl refl refl
   where
-    go : (a b c d f : Bool) → (impossibleWalk w || impossibleSheet s) ≡ a → not (w .is_open) ≡ b → ltb (w .count) 3 ≡ c → leb 64 (s .count) ≡ d → exceed totalLimits (plus (s .totals) (addedTotals w)) ≡ f → EndCase w s (cond a (refusedEnd 28 w s) (cond b (refusedEnd 21 w s) (cond c (refusedEnd 24 w s) (cond d (refusedEnd 25 w s) (cond f (refusedEnd 26 w s) (record { number = 0; totals = addedTotals w; walk = closed; sheet = sheetWith s (addedTotals w) }))))))
-    go true b c d f ea eb ec ed ef = refused 28 (number-28 ea)
-    go false true c d f ea eb ec ed ef = refused 21 (other 21 refl refl)
-    go false false true d f ea eb ec ed ef = refused 24 (other 24 refl refl)
-    go false false false true f ea eb ec ed ef = refused 25 (other 25 refl refl)
-    go false false false false true ea eb ec ed ef = refused 26 (other 26 refl refl)
-    go false false false false false ea eb ec ed ef = accepted (record { is-open = not-false (w .is_open) eb; enough = ltb-false (w .count) 3 ec; room = leb-false 64 (s .count) ed; within = ef })
+    go : (a b c d f g : Bool) → (impossibleWalk w || impossibleSheet s) ≡ a → not (w .is_open) ≡ b → ltb (w .count) 3 ≡ c → zeroArea (closedTotals w) ≡ d → leb 64 (s .count) ≡ f → exceed totalLimits (plus (s .totals) (addedTotals w)) ≡ g → EndCase w s (cond a (refusedEnd 28 w s) (cond b (refusedEnd 21 w s) (cond c (refusedEnd 24 w s) (cond d (refusedEnd 32 w s) (cond f (refusedEnd 25 w s) (cond g (refusedEnd 26 w s) (endedWith s (addedTotals w))))))))
+    go true b c d f g ea eb ec ed ef eg = refused 28 (number-28 ea)
+    go false true c d f g ea eb ec ed ef eg = refused 21 (other 21 refl refl)
+    go false false true d f g ea eb ec ed ef eg = refused 24 (other 24 refl refl)
+    go false false false true f g ea eb ec ed ef eg = refused 32 (other 32 refl refl)
+    go false false false false true g ea eb ec ed ef eg = refused 25 (other 25 refl refl)
+    go false false false false false true ea eb ec ed ef eg = refused 26 (other 26 refl refl)
+    go false false false false false false ea eb ec ed ef eg = accepted (record { closable = record { is-open = not-false (w .is_open) eb; enough = ltb-false (w .count) 3 ec }; area = ed; room = leb-false 64 (s .count) ef; within = eg })
+
+-- An accepted end: why it is accepted, and all that it answers and leaves.
+pub end-accepted : (w : Walk) (s : Sheet) → endCall w s .number ≡ 0 → Ends w s × (endCall w s ≡ endedWith s (addedTotals w))
+end-accepted w s = go (endCall w s) (end-case w s)
+  where
+    go : (e : EndOutcome) → EndCase w s e → e .number ≡ 0 → Ends w s × (e ≡ endedWith s (addedTotals w))
+    go e (refused n h) z = absurd (h .not-0 z)
+    go e (accepted h) z = (h, refl)
 
 -- ---- every call, by its number and the walk that it leaves
 
 pub data Taken (w : Walk) : Call → Walk → Type 0 where
-  begun : w .is_open ≡ false → Taken w begin opened
+  begun : (k : Kind) → w .is_open ≡ false → Taken w (begin k) (opened k)
   extends : (p : Position) → w .is_open ≡ true → outside p ≡ false → w .count < 1024 → Taken w (point p) (extended w p)
   ends : (s : Sheet) → Ends w s → Taken w (end s) closed
   abandoned : w .is_open ≡ true → Taken w abandon closed
@@ -63,12 +75,12 @@ pub data CallCase (w : Walk) (c : Call) : ℕ → Walk → Type 0 where
 
 pub call-case : (w : Walk) (c : Call) → CallCase w c (numberOf w c) (walkAfter w c)
 unfolding numberOf walkAfter impossibleSheetIn beginCall pointCall abandonCall
-call-case w begin = go (impossibleWalk w) (w .is_open) refl refl
+call-case w (begin k) = go (impossibleWalk w) (w .is_open) refl refl
   where
-    go : (a b : Bool) → impossibleWalk w ≡ a → w .is_open ≡ b → (let r = cond a (refusedWalk 28 w) (cond b (refusedWalk 22 w) (record { number = 0; walk = opened })) in CallCase w begin (r .number) (r .walk))
+    go : (a b : Bool) → impossibleWalk w ≡ a → w .is_open ≡ b → (let r = cond a (refusedWalk 28 w) (cond b (refusedWalk 22 w) (record { number = 0; walk = opened k })) in CallCase w (begin k) (r .number) (r .walk))
     go true b ea eb = refused 28 (number-28 (rw ea))
     go false true ea eb = refused 22 (other 22 refl refl)
-    go false false ea eb = accepted (begun eb)
+    go false false ea eb = accepted (begun k eb)
 call-case w (point p) = go (impossibleWalk w) (not (w .is_open)) (outside p) (leb 1024 (w .count)) refl refl refl refl
   where
     go : (a b c d : Bool) → impossibleWalk w ≡ a → not (w .is_open) ≡ b → outside p ≡ c → leb 1024 (w .count) ≡ d → (let r = cond a (refusedWalk 28 w) (cond b (refusedWalk 21 w) (cond c (refusedWalk 1 w) (cond d (refusedWalk 23 w) (record { number = 0; walk = extended w p })))) in CallCase w (point p) (r .number) (r .walk))

@@ -1,82 +1,98 @@
--- The walked theorem is not empty: every outline that the list call accepts can be walked, from any walk marked closed, into any sheet that has room for it.
+-- The walked theorem is not empty: every outline that the list call accepts can be walked, from any walk marked closed, as a ring of either kind. If it has an area, its
+-- end is accepted by every sheet that has room for it; if it has none, it is refused with 32.
 use mathlib.Core.Path.{_≡_, refl, sym, _∙_, ap, subst}
-use mathlib.Core.Bool.{false, cond}
+use mathlib.Core.Bool.{Bool, true, false, cond}
 use mathlib.Core.List.{List, [], _∷_, _++_, map, append-assoc, append-nil}
+use mathlib.Core.Logic.{_≢_}
 use Prim.Native.Nat.{_+_, _<_, _≤_}
 use native.Mathlib.Omega.{arith}
 use lib.Dec.{eqb}
 use lib.ListN.{length, length-append}
-use lib.IntN.{ℤ}
+use lib.IntN.{ℤ, pos}
 use borrow.Author.Tests.{le-ltb, lt-leb}
 use Rattle.outline.specs.declared.Position.{Position}
 use Rattle.outline.specs.declared.Totals.{Totals}
+use Rattle.outline.specs.declared.Kind.{Kind}
 use Rattle.outline.specs.declared.Walk.{Walk}
 use Rattle.outline.specs.declared.Sheet.{Sheet}
-use Rattle.outline.specs.EdgeSums.{openEdges, sumOver, outlineTotals, over, exceed}
+use Rattle.outline.specs.EdgeSums.{openEdges, sumOver, outlineTotals, negated, over, exceed}
 use Rattle.outline.specs.ListCall.{accepted, points, listCall}
 use Rattle.outline.specs.MapCall.{totalLimits}
-use Rattle.outline.specs.WalkCalls.{newSheet, impossibleSheet, beginCall, pointCall, endCall}
-use Rattle.outline.specs.CallLists.{begin, point, end, numberOf, walkAfter, pointsWith, next, after, from, walkOf}
-use Rattle.outline.specs.EveryOutline.{answers, Room, endedWith, EveryOutline}
+use Rattle.outline.specs.WalkCalls.{newSheet, closedTotals, turned, impossibleSheet, beginCall, pointCall, refusedEnd, endCall}
+use Rattle.outline.specs.CallLists.{point, numberOf, walkAfter, Ring, ringWith, Trace, next, after, from, walkOf}
+use Rattle.outline.specs.EveryOutline.{answers, Walkable, Room, endedWith, Ending, EveryOutline}
 use Rattle.outline.proofs.Every.{All, all-append, all-member}
 use Rattle.outline.proofs.TotalsLaws.{zeros-plus}
 use Rattle.outline.proofs.Limits.{Inside, not-outside, Outline, accepts-only-outlines, fit-exceed, limits-fit, accepted-fit}
+use Rattle.outline.proofs.TurnedTotals.{zero-zeroArea, area-zeroArea, turned-exceed}
+use Rattle.outline.proofs.Refusals.{end-32}
 use Rattle.outline.proofs.WalkOf.{extended-is, closed-is, possible-walk, possible-closed}
 use Rattle.outline.proofs.WalkedOutline.{traceOf}
 
--- A new sheet has room for every outline.
-pub new-sheet-room : (zs : List ℤ) (t : Totals) → listCall zs ≡ accepted t → Room newSheet t
+-- A new sheet has room for every outline, as a ring of either kind.
+pub new-sheet-room : (zs : List ℤ) (t : Totals) → listCall zs ≡ accepted t → (k : Kind) → Room newSheet (turned k t)
 unfolding impossibleSheet exceed over
-new-sheet-room zs t e = record { possible = refl; count = omega arith; totals = ap (exceed totalLimits) (zeros-plus t) ∙ fit-exceed totalLimits t (limits-fit t (accepted-fit zs t e)) }
+new-sheet-room zs t e k = record { possible = refl; count = omega arith; totals = ap (exceed totalLimits) (zeros-plus (turned k t)) ∙ turned-exceed totalLimits k t ∙ fit-exceed totalLimits t (limits-fit t (accepted-fit zs t e)) }
 
--- ---- begin, the points and the end, each accepted
+-- ---- begin, the points and the end
 
-begin-answer : (w : Walk) → w .is_open ≡ false → beginCall w ≡ record { number = 0; walk = walkOf [] }
-unfolding beginCall openEdges sumOver
-begin-answer w h = rw (possible-closed w h, h)
+module _ (k : Kind) where
+  abbrev ringOf : List Position → Ring
+  ringOf ps = record { kind = k; points = ps }
 
-point-answer : (qs : List Position) → length qs < 1024 → All Inside qs → (p : Position) → Inside p → pointCall (walkOf qs) p ≡ record { number = 0; walk = walkOf (qs ++ p ∷ []) }
-unfolding pointCall
-point-answer qs n h p k = rw (possible-walk qs (omega arith) h, not-outside p k, lt-leb 1024 (length qs) n, extended-is qs p)
+  begin-answer : (w : Walk) → w .is_open ≡ false → beginCall w k ≡ record { number = 0; walk = walkOf (ringOf []) }
+  unfolding beginCall openEdges sumOver
+  begin-answer w h = rw (possible-closed w h, h)
 
-end-answer : (ps : List Position) (s : Sheet) → Outline ps → Room s (outlineTotals ps) → endCall (walkOf ps) s ≡ endedWith s (outlineTotals ps)
-unfolding endCall
-end-answer ps s o = subst (λ t. Room s t → endCall (walkOf ps) s ≡ endedWith s t) (closed-is ps (o .enough)) (λ room. rw (possible-walk ps (o .few) (o .inside), room .possible, le-ltb (length ps) 3 (o .enough), lt-leb 64 (s .count) (room .count), room .totals))
+  point-answer : (qs : List Position) → length qs < 1024 → All Inside qs → (p : Position) → Inside p → pointCall (walkOf (ringOf qs)) p ≡ record { number = 0; walk = walkOf (ringOf (qs ++ p ∷ [])) }
+  unfolding pointCall
+  point-answer qs n h p i = rw (possible-walk k qs (omega arith) h, not-outside p i, lt-leb 1024 (length qs) n, extended-is k qs p)
 
--- ---- from the walk that has taken qs: the points ps and then the end
+  end-answer : (ps : List Position) (s : Sheet) → Outline ps → outlineTotals ps .a2 ≢ pos 0 → Room s (turned k (outlineTotals ps)) → endCall (walkOf (ringOf ps)) s ≡ endedWith s (turned k (outlineTotals ps))
+  unfolding endCall
+  end-answer ps s o =
+      subst (λ t. t .a2 ≢ pos 0 → Room s (turned k t) → endCall (walkOf (ringOf ps)) s ≡ endedWith s (turned k t)) (closed-is k ps (o .enough)) (λ area room.
+      rw (possible-walk k ps (o .few) (o .inside), room .possible, le-ltb (length ps) 3 (o .enough), area-zeroArea (closedTotals (walkOf (ringOf ps))) area, lt-leb 64 (s .count) (room .count), room .totals))
 
-module _ (s : Sheet) where
-  all-accepted : (ps qs : List Position) → Outline (qs ++ ps) → Room s (outlineTotals (qs ++ ps)) → All Inside qs → All Inside ps → All (λ n. n ≡ 0) (answers (walkOf qs) (map point ps ++ end s ∷ []))
+  end-refused : (ps : List Position) (s : Sheet) → Outline ps → outlineTotals ps .a2 ≡ pos 0 → impossibleSheet s ≡ false → endCall (walkOf (ringOf ps)) s ≡ refusedEnd 32 (walkOf (ringOf ps)) s
+  end-refused ps s o z m = end-32 (walkOf (ringOf ps)) s (possible-walk k ps (o .few) (o .inside)) m (record { is-open = refl; enough = o .enough }) (zero-zeroArea _ (ap (λ t. t .a2) (closed-is k ps (o .enough)) ∙ z))
+
+  -- ---- from the walk that has taken qs: the points ps
+
+  all-accepted : (ps qs : List Position) → length qs + length ps ≤ 1024 → All Inside qs → All Inside ps → All (λ n. n ≡ 0) (answers (walkOf (ringOf qs)) (map point ps))
   unfolding numberOf walkAfter
-  all-accepted [] qs o room h k = (ap (λ e. e .number) (end-answer qs s (subst Outline (append-nil qs) o) (subst (λ ps. Room s (outlineTotals ps)) (append-nil qs) room)), tt)
-  all-accepted (p ∷ ps) qs o room h k =
-      let a = point-answer qs (omega (arith, o .few, length-append qs (p ∷ ps))) h p (k .0) in
-      let same = sym (append-assoc qs (p ∷ []) ps) in (
+  all-accepted [] qs n h i = tt
+  all-accepted (p ∷ ps) qs n h i =
+      let a = point-answer qs (omega arith) h p (i .0) in (
         ap (λ r. r .number) a,
-        subst (λ r. All (λ n. n ≡ 0) (answers (r .walk) (map point ps ++ end s ∷ []))) (sym a)
-            (all-accepted ps (qs ++ p ∷ []) (subst Outline same o) (subst (λ ps. Room s (outlineTotals ps)) same room) (all-append Inside qs (p ∷ []) h (k .0, tt)) (k .1)),
+        subst (λ r. All (λ n. n ≡ 0) (answers (r .walk) (map point ps))) (sym a) (all-accepted ps (qs ++ p ∷ []) (omega (arith, length-append qs (p ∷ []))) (all-append Inside qs (p ∷ []) h (i .0, tt)) (i .1)),
       )
 
-all-taken : (ps qs : List Position) → length qs + length ps ≤ 1024 → All Inside qs → All Inside ps → after (traceOf qs) (map point ps) ≡ traceOf (qs ++ ps)
-unfolding after next numberOf walkAfter pointsWith
-all-taken [] qs n h k = ap traceOf (sym (append-nil qs))
-all-taken (p ∷ ps) qs n h k =
-    ap (λ a. after (record { walk = a .walk; points = cond (eqb (a .number) 0) (qs ++ p ∷ []) qs }) (map point ps)) (point-answer qs (omega arith) h p (k .0))
-    ∙ all-taken ps (qs ++ p ∷ []) (omega (arith, length-append qs (p ∷ []))) (all-append Inside qs (p ∷ []) h (k .0, tt)) (k .1)
-    ∙ ap traceOf (append-assoc qs (p ∷ []) ps)
+  all-taken : (ps qs : List Position) → length qs + length ps ≤ 1024 → All Inside qs → All Inside ps → after (traceOf (ringOf qs)) (map point ps) ≡ traceOf (ringOf (qs ++ ps))
+  unfolding after next numberOf walkAfter ringWith
+  all-taken [] qs n h i = ap (λ ps. traceOf (ringOf ps)) (sym (append-nil qs))
+  all-taken (p ∷ ps) qs n h i =
+      ap (λ a. after (record { walk = a .walk; ring = cond (eqb (a .number) 0) (ringOf (qs ++ p ∷ [])) (ringOf qs) }) (map point ps)) (point-answer qs (omega arith) h p (i .0))
+      ∙ all-taken ps (qs ++ p ∷ []) (omega (arith, length-append qs (p ∷ []))) (all-append Inside qs (p ∷ []) h (i .0, tt)) (i .1)
+      ∙ ap (λ ps. traceOf (ringOf ps)) (append-assoc qs (p ∷ []) ps)
+
+  walkable : (w : Walk) → w .is_open ≡ false → (ps : List Position) → Outline ps → Walkable w (ringOf ps)
+  unfolding numberOf walkAfter after next ringWith
+  walkable w h ps o =
+      let b = begin-answer w h in
+      let r = ap (λ a. after (record { walk = a .walk; ring = cond (eqb (a .number) 0) (ringOf []) (from w .ring) }) (map point ps)) b ∙ all-taken ps [] (omega (arith, o .few)) tt (o .inside) in
+      record {
+        none-refused = all-member (λ n. n ≡ 0) _ (ap (λ a. a .number) b, subst (λ a. All (λ n. n ≡ 0) (answers (a .walk) (map point ps))) (sym b) (all-accepted ps [] (omega (arith, o .few)) tt (o .inside)));
+        ring = ap (λ (r : Trace). r .ring) r;
+        walk = ap (λ (r : Trace). r .walk) r;
+      }
 
 -- ---- the theorem
 
 pub every-outline : EveryOutline
-unfolding numberOf walkAfter after next pointsWith
-every-outline zs t e w h s room =
-    let k = accepts-only-outlines zs t e in
-    let o = k .0 .outline in
-    let room′ = subst (Room s) (k .1) room in
-    let b = begin-answer w h in
-    let r : after (from w) (begin ∷ map point (points zs)) ≡ traceOf (points zs) = ap (λ a. after (record { walk = a .walk; points = cond (eqb (a .number) 0) [] [] }) (map point (points zs))) b ∙ all-taken (points zs) [] (omega (arith, o .few)) tt (o .inside) in
-    record {
-      none-refused = all-member (λ n. n ≡ 0) _ (ap (λ a. a .number) b, subst (λ a. All (λ n. n ≡ 0) (answers (a .walk) (map point (points zs) ++ end s ∷ []))) (sym b) (all-accepted s (points zs) [] o room′ tt (o .inside)));
-      taken = ap (λ r. r .points) r;
-      ended = ap (λ r. endCall (r .walk) s) r ∙ end-answer (points zs) s o room′ ∙ ap (endedWith s) (sym (k .1));
-    }
+every-outline zs t e k w h =
+    let (list, totals) = accepts-only-outlines zs t e in
+    let o = list .outline in (
+      walkable k w h (points zs) o,
+      subst (Ending (ringOf k (points zs))) (sym totals) (record { accepted = λ area s room. end-answer k (points zs) s o area room; refused = λ z s m. end-refused k (points zs) s o z m }),
+    )

@@ -5,6 +5,7 @@ pub mod OtherTermsLaw
 pub mod IndexLaws
 pub mod Limits
 pub mod PossibleWalks
+pub mod TurnedTotals
 pub mod CallCases
 pub mod Refusals
 pub mod OddTerms
@@ -22,10 +23,13 @@ pub mod WalkOf
 pub mod WalkedOutline
 pub mod WalkedAgain
 pub mod EveryOutline
+pub mod Rings
 pub mod SheetSums
 pub mod WorkedInputs
 pub mod WorkedLimits
 pub mod WorkedOrders
 pub mod CornerCases
+pub mod WorkedRings
 pub mod PiecesUses
 pub mod WalkedUses
+pub mod RingUses

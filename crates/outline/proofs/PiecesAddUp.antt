@@ -54,14 +54,19 @@ placed-sum t o w start (p ∷ pieces) =
     ap₂ (λ a b. a +ℤ b) (start-law t (start 0) (walked w p) ∙ walked-sum t o w p) (placed-sum t o w (λ k. start (suc k)) pieces)
     ∙ signed-sum w (around t p) (sumAround t pieces)
 
+pub walked-length : (w : Direction) (p : Piece) → length (walked w p) ≡ length p
+unfolding walked
+walked-length forwards p = refl
+walked-length backwards p = length-reverse p
+
+pub start-length : (s : ℕ) (p : Piece) → length (startAt s p) ≡ length p
+start-length s p = length-append (drop s p) (take s p) ∙ omega (arith, length-drop s p, length-take s p)
+
 module _ (P : Position → Type 0) where
   reversed-outline : (w : Direction) (p : Piece) → OutlineIn P p → OutlineIn P (walked w p)
   unfolding walked
   reversed-outline forwards p o = o
   reversed-outline backwards p o = record { enough = rw (length-reverse p) (o .enough); few = rw (length-reverse p) (o .few); inside = all-reverse P p (o .inside) }
-
-  start-length : (s : ℕ) (p : Piece) → length (startAt s p) ≡ length p
-  start-length s p = length-append (drop s p) (take s p) ∙ omega (arith, length-drop s p, length-take s p)
 
   start-outline : (s : ℕ) (p : Piece) → OutlineIn P p → OutlineIn P (startAt s p)
   start-outline s p o = record { enough = rw (start-length s p) (o .enough); few = rw (start-length s p) (o .few); inside = all-append P (drop s p) (take s p) (all-drop P s p (o .inside)) (all-take P s p (o .inside)) }

@@ -1,21 +1,25 @@
 -- Demand 1: whatever the number, a call that is not accepted answers zeros and hands walk and sheet back as they came. And 28 is the answer for exactly the
 -- walks and sheets that it refuses.
 use mathlib.Core.Path.{_≡_, refl, sym, _∙_}
-use mathlib.Core.Bool.{Bool, true, false, _||_, cond, or-false}
+use mathlib.Core.Bool.{Bool, true, false, not, _||_, cond, or-false}
 use mathlib.Core.List.{List}
 use mathlib.Core.Logic.{_≢_}
 use Prim.Native.Nat.{ℕ}
 use native.Mathlib.Omega.{arith}
+use lib.Dec.{leb, ltb, eqb}
 use lib.IntN.{ℤ}
+use borrow.Author.Tests.{eqb-false, le-ltb, ltb-false, not-false}
 use Rattle.outline.specs.declared.Totals.{Totals}
 use Rattle.outline.specs.declared.AffineMap.{AffineMap}
 use Rattle.outline.specs.declared.Walk.{Walk}
 use Rattle.outline.specs.declared.Sheet.{Sheet}
-use Rattle.outline.specs.EdgeSums.{outlineTotals, zeros, exceed, outlineBounds}
+use Rattle.outline.specs.EdgeSums.{outlineTotals, plus, zeros, exceed, outlineBounds}
 use Rattle.outline.specs.ListCall.{accepted, refused, points, anyOutside, wrongLength, listCall}
 use Rattle.outline.specs.MapCall.{disallowed, mapped, totalLimits, mapCall}
-use Rattle.outline.specs.WalkCalls.{impossibleWalk, EndOutcome, beginCall, pointCall, endCall, abandonCall}
+use Rattle.outline.specs.WalkCalls.{closedTotals, addedTotals, zeroArea, impossibleWalk, impossibleSheet, EndOutcome, refusedEnd, beginCall, pointCall, endCall, abandonCall}
 use Rattle.outline.specs.CallLists.{Call, begin, point, end, abandon, numberOf, walkAfter, impossibleSheetIn}
+use Rattle.outline.specs.WalkedOutline.{Closable}
+use Rattle.integers.proofs.Cases.{by-cond}
 use Rattle.integers.proofs.Flags.{neither}
 use Rattle.outline.proofs.CallCases as Case
 
@@ -90,7 +94,31 @@ not-28 w e c f = go (numberOf w c) (walkAfter w c) (Case.call-case w c)
 -- 28 comes first: a call with a walk or a sheet that 28 refuses is answered with 28, whatever else is wrong.
 pub first-28 : (w : Walk) (c : Call) → (impossibleWalk w || impossibleSheetIn c) ≡ true → numberOf w c ≡ 28
 unfolding numberOf impossibleSheetIn beginCall pointCall endCall abandonCall
-first-28 w begin e = rw (sym (or-false (impossibleWalk w)) ∙ e, numberOf)
+first-28 w (begin k) e = rw (sym (or-false (impossibleWalk w)) ∙ e, numberOf)
 first-28 w (point p) e = rw (sym (or-false (impossibleWalk w)) ∙ e, numberOf)
 first-28 w (end s) e = rw (e, numberOf)
 first-28 w abandon e = rw (sym (or-false (impossibleWalk w)) ∙ e, numberOf)
+
+-- ---- 32
+
+-- A walk of zero area is refused with 32, by every sheet that 28 takes,
+pub end-32 : (w : Walk) (s : Sheet) → impossibleWalk w ≡ false → impossibleSheet s ≡ false → Closable w → zeroArea (closedTotals w) ≡ true → endCall w s ≡ refusedEnd 32 w s
+unfolding endCall
+end-32 w s e f c z = rw (e, f, c .is-open, le-ltb (w .count) 3 (c .enough), z)
+
+-- and no other is.
+pub only-32 : (w : Walk) (s : Sheet) → endCall w s .number ≡ 32 → Closable w × (zeroArea (closedTotals w) ≡ true)
+unfolding endCall
+only-32 w s =
+    by-cond Explained (impossibleWalk w || impossibleSheet s) (λ _. other 28 refl) (λ _.
+    by-cond Explained (not (w .is_open)) (λ _. other 21 refl) (λ is-open.
+    by-cond Explained (ltb (w .count) 3) (λ _. other 24 refl) (λ enough.
+    by-cond Explained (zeroArea (closedTotals w)) (λ zero _. (record { is-open = not-false (w .is_open) is-open; enough = ltb-false (w .count) 3 enough }, zero)) (λ _.
+    by-cond Explained (leb 64 (s .count)) (λ _. other 25 refl) (λ _.
+    by-cond Explained (exceed totalLimits (plus (s .totals) (addedTotals w))) (λ _. other 26 refl) (λ _. other 0 refl))))))
+  where
+    Explained : EndOutcome → Type 0
+    Explained e = e .number ≡ 32 → Closable w × (zeroArea (closedTotals w) ≡ true)
+
+    other : (n : ℕ) → eqb n 32 ≡ false → n ≡ 32 → Closable w × (zeroArea (closedTotals w) ≡ true)
+    other n e h = absurd (eqb-false n 32 e h)

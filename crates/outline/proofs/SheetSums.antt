@@ -11,10 +11,10 @@ use Rattle.outline.specs.declared.Position.{Position}
 use Rattle.outline.specs.declared.Totals.{Totals}
 use Rattle.outline.specs.declared.Walk.{Walk}
 use Rattle.outline.specs.declared.Sheet.{Sheet}
-use Rattle.outline.specs.EdgeSums.{outlineTotals, plus, over, exceed}
+use Rattle.outline.specs.EdgeSums.{plus, over, exceed}
 use Rattle.outline.specs.Pieces.{sumOf}
 use Rattle.outline.specs.WalkCalls.{newSheet, addedTotals, sheetWith, impossibleSheet, EndOutcome, endCall}
-use Rattle.outline.specs.CallLists.{sheetAfter, addedBy, Walking, reached, outlinesOn}
+use Rattle.outline.specs.CallLists.{Ring, ringTotals, sheetAfter, addedBy, Walking, reached, ringsOn}
 use Rattle.outline.specs.SheetSums.{HoldsSums, SheetSums, WalkedSheetSums}
 use Rattle.integers.proofs.Flags.{neither}
 use Rattle.outline.proofs.CallCases as Case
@@ -55,18 +55,18 @@ sheet-sums ws =
 
 -- ---- walked outlines
 
--- What a walked outline's end adds is the totals of its points.
-added-outlines : (ks : List Walking) (s : Sheet) → addedBy s (map (λ k. reached k .walk) ks) ≡ map outlineTotals (outlinesOn s (map reached ks))
-unfolding addedBy outlinesOn
-added-outlines [] s = refl
-added-outlines (k ∷ ks) s = go (outlinesOn (e .sheet) (map reached ks)) (added-outlines ks (e .sheet)) (eqb (e .number) 0) refl
+-- What the end of a ring adds is the totals of its points, turned by its kind.
+added-rings : (ks : List Walking) (s : Sheet) → addedBy s (map (λ k. reached k .walk) ks) ≡ map ringTotals (ringsOn s (map reached ks))
+unfolding addedBy ringsOn
+added-rings [] s = refl
+added-rings (k ∷ ks) s = go (ringsOn (e .sheet) (map reached ks)) (added-rings ks (e .sheet)) (eqb (e .number) 0) refl
   where
     e : EndOutcome
     e = endCall (reached k .walk) s
 
-    go : {ts : List Totals} (os : List (List Position)) → ts ≡ map outlineTotals os → (b : Bool) → eqb (e .number) 0 ≡ b → cond b (e .totals ∷ ts) ts ≡ map outlineTotals (cond b (reached k .points ∷ os) os)
-    go os rest true h = ap₂ {C = List Totals} (λ t ts. t ∷ ts) (walked-outline k .edge-sums s (eqb-true (e .number) 0 h)) rest
-    go os rest false h = rest
+    go : {ts : List Totals} (gs : List Ring) → ts ≡ map ringTotals gs → (b : Bool) → eqb (e .number) 0 ≡ b → cond b (e .totals ∷ ts) ts ≡ map ringTotals (cond b (reached k .ring ∷ gs) gs)
+    go gs rest true h = ap₂ {C = List Totals} (λ t ts. t ∷ ts) (walked-outline k .answered s (eqb-true (e .number) 0 h)) rest
+    go gs rest false h = rest
 
 pub walked-sheet-sums : WalkedSheetSums
-walked-sheet-sums ks = subst (HoldsSums (sheetAfter newSheet (map (λ k. reached k .walk) ks))) (added-outlines ks newSheet) (sheet-sums (map (λ k. reached k .walk) ks))
+walked-sheet-sums ks = subst (HoldsSums (sheetAfter newSheet (map (λ k. reached k .walk) ks))) (added-rings ks newSheet) (sheet-sums (map (λ k. reached k .walk) ks))

@@ -1,4 +1,4 @@
--- The walk that has taken given points: one point more, its closing edge, and why 28 takes it.
+-- The walk that has taken the points of a ring: one point more, its closing edge, and why 28 takes it.
 use mathlib.Core.Path.{_≡_, refl, sym}
 use mathlib.Core.Bool.{false, not, _&&_, _||_}
 use mathlib.Core.List.{List, [], _∷_, _++_}
@@ -9,6 +9,7 @@ use lib.ListN.{length, length-append}
 use lib.Seq.{getD-at}
 use borrow.Author.Tests.{le-ltb}
 use Rattle.outline.specs.declared.Position.{Position}
+use Rattle.outline.specs.declared.Kind.{Kind}
 use Rattle.outline.specs.declared.Walk.{Walk}
 use Rattle.outline.specs.EdgeSums.{plus, openEdges, edges, sumOver, totalsOver, outlineTotals}
 use Rattle.outline.specs.ListCall.{outside}
@@ -21,10 +22,10 @@ use Rattle.outline.proofs.Limits.{Inside, not-outside, fit-exceed, open
 
 -- ---- one point more, and the closing edge
 
-pub extended-is : (ps : List Position) (p : Position) → extended (walkOf ps) p ≡ walkOf (ps ++ p ∷ [])
+pub extended-is : (k : Kind) (ps : List Position) (p : Position) → extended (walkOf (record { kind = k; points = ps })) p ≡ walkOf (record { kind = k; points = ps ++ p ∷ [] })
 unfolding extended openEdges sumOver
-extended-is [] p = refl
-extended-is (a ∷ ps) p = rw (eqb·suc-zero (length ps)) (λ i. openWalk (n i) a (l i) (s i))
+extended-is k [] p = refl
+extended-is k (a ∷ ps) p = rw (eqb·suc-zero (length ps)) (λ i. openWalk k (n i) a (l i) (s i))
   where
     n : suc (length ps) + 1 ≡ suc (length (ps ++ p ∷ []))
     n = omega (arith, length-append ps (p ∷ []))
@@ -35,10 +36,10 @@ extended-is (a ∷ ps) p = rw (eqb·suc-zero (length ps)) (λ i. openWalk (n i) 
     s : plus (totalsOver (openEdges (a ∷ ps))) (edgeTotals (lastOf (a ∷ ps)) p) ≡ totalsOver (openEdges (a ∷ ps ++ p ∷ []))
     s = sym (totals-snoc a ps p origin)
 
-pub closed-is : (ps : List Position) → 3 ≤ length ps → closedTotals (walkOf ps) ≡ outlineTotals ps
+pub closed-is : (k : Kind) (ps : List Position) → 3 ≤ length ps → closedTotals (walkOf (record { kind = k; points = ps })) ≡ outlineTotals ps
 unfolding edges
-closed-is [] h = absurd (omega arith)
-closed-is (a ∷ ps) h = sym (totals-snoc a ps a origin)
+closed-is k [] h = absurd (omega arith)
+closed-is k (a ∷ ps) h = sym (totals-snoc a ps a origin)
 
 -- ---- 28 takes it, and any closed walk
 
@@ -46,9 +47,9 @@ ends-inside : (ps : List Position) → All Inside ps → (not (eqb (length ps) 0
 ends-inside [] h = refl
 ends-inside (a ∷ ps) h = rw (eqb·suc-zero (length ps)) (neither (not-outside a (h .0)) (not-outside (lastOf (a ∷ ps)) (all-at Inside (a ∷ ps) (length ps) origin h (omega arith))))
 
-pub possible-walk : (ps : List Position) → length ps ≤ 1024 → All Inside ps → impossibleWalk (walkOf ps) ≡ false
+pub possible-walk : (k : Kind) (ps : List Position) → length ps ≤ 1024 → All Inside ps → impossibleWalk (walkOf (record { kind = k; points = ps })) ≡ false
 unfolding impossibleWalk
-possible-walk ps n h = neither (neither (le-ltb 1024 (length ps) n) (ends-inside ps h)) (fit-exceed (share (length ps)) (totalsOver (openEdges ps)) (open-fit ps h))
+possible-walk k ps n h = neither (neither (le-ltb 1024 (length ps) n) (ends-inside ps h)) (fit-exceed (share (length ps)) (totalsOver (openEdges ps)) (open-fit ps h))
 
 pub possible-closed : (w : Walk) → w .is_open ≡ false → impossibleWalk w ≡ false
 unfolding impossibleWalk

@@ -5,7 +5,7 @@ use Rattle.outline.specs.declared.Totals.{Totals}
 use Rattle.outline.specs.ListCall.{accepted, points, numbers, anyOutside, listCall}
 use Rattle.outline.specs.MapCall.{moved}
 use Rattle.outline.specs.Pieces.{startAt, Direction, forwards, backwards, walked, directed}
-use Rattle.outline.specs.WalkCalls.{endCall}
+use Rattle.outline.specs.WalkCalls.{closedTotals}
 use Rattle.outline.specs.CallLists.{reached}
 use Rattle.outline.specs.WalkedOutline.{WalkedAgain}
 use Rattle.outline.proofs.IndexLaws.{points-numbers}
@@ -18,10 +18,11 @@ directed-twice forwards t = refl
 directed-twice backwards t = simp negℤ-negℤ
 
 pub walked-again : WalkedAgain
-walked-again first second s accepts-first q accepts-second start direction m allowed bounds e =
+walked-again first closable-first second closable-second start direction m allowed bounds e =
     let r = reached first in
-    let p = points-numbers (r .points) in
-    let one = no-cut (numbers (r .points)) (endCall (r .walk) s .totals) (walked-outline first .list-call-agrees s accepts-first) start direction m allowed (ap (λ ps. anyOutside (moved m ps)) p ∙ bounds) in
-    let taken : reached second .points ≡ moved m (startAt start (walked direction (points (numbers (r .points))))) = e ∙ ap (λ ps. moved m (startAt start (walked direction ps))) (sym p) in
-    let again = sym (walked-outline second .list-call-agrees q accepts-second) ∙ ap (λ ps. listCall (numbers ps)) taken ∙ one .list-accepts in
+    let ps = r .ring .points in
+    let p = points-numbers ps in
+    let one = no-cut (numbers ps) (closedTotals (r .walk)) (walked-outline first .list-call-agrees closable-first) start direction m allowed (ap (λ ps. anyOutside (moved m ps)) p ∙ bounds) in
+    let taken : reached second .ring .points ≡ moved m (startAt start (walked direction (points (numbers ps)))) = e ∙ ap (λ ps. moved m (startAt start (walked direction ps))) (sym p) in
+    let again = sym (walked-outline second .list-call-agrees closable-second) ∙ ap (λ ps. listCall (numbers ps)) taken ∙ one .list-accepts in
     one .map-accepts ∙ ap accepted (sym (directed-twice direction (one .image)) ∙ sym (ap (λ a. directed direction (a .totals)) again))

@@ -1,5 +1,5 @@
--- Demands 2 and 3 for walked outlines: after any list of calls from a walk marked closed, the walk is closed or is the walk of the points taken since the
--- last accepted begin. Each call keeps this, and the claims follow from it.
+-- Demands 2 and 3 for walked outlines: after any list of calls from a walk marked closed, the walk is closed or is the walk of the ring begun last: the kind of the last
+-- accepted begin, and the points taken since. Each call keeps this, and the claims follow from it.
 use mathlib.Core.Path.{_≡_, refl, sym, _∙_, ap, subst}
 use mathlib.Core.Bool.{true, false, cond, true≢false}
 use mathlib.Core.List.{List, [], _∷_, _++_, map}
@@ -9,44 +9,47 @@ use lib.Dec.{eqb}
 use lib.ListN.{length, length-append}
 use borrow.Author.Tests.{ne-eqb}
 use Rattle.outline.specs.declared.Position.{Position}
+use Rattle.outline.specs.declared.Kind.{Kind}
 use Rattle.outline.specs.declared.Walk.{Walk}
-use Rattle.outline.specs.declared.Sheet.{Sheet}
 use Rattle.outline.specs.EdgeSums.{openEdges, sumOver, outlineTotals, outlineBounds, exceed}
 use Rattle.outline.specs.ListCall.{accepted, numbers, outside, anyOutside}
 use Rattle.outline.specs.MapCall.{moved}
 use Rattle.outline.specs.Pieces.{piecesOf, placed}
-use Rattle.outline.specs.WalkCalls.{EndOutcome, closedTotals, extended, impossibleWalk, endCall}
-use Rattle.outline.specs.CallLists.{Call, numberOf, walkAfter, pointsWith, Trace, next, after, walkOf, Walking, reached}
+use Rattle.outline.specs.WalkCalls.{closedTotals, turned, addedTotals, extended, impossibleWalk}
+use Rattle.outline.specs.CallLists.{Call, numberOf, walkAfter, Ring, ringWith, Trace, next, after, walkOf, ringTotals, Walking, reached}
 use Rattle.outline.specs.PiecesAddUp.{AddUpMoved}
-use Rattle.outline.specs.WalkedOutline.{WalkedOutline, WalkedPieces}
+use Rattle.outline.specs.WalkedOutline.{Closable, WalkedOutline, WalkedPieces}
 use Rattle.outline.proofs.Every.{All, all-append}
 use Rattle.outline.proofs.IndexLaws.{points-numbers}
 use Rattle.outline.proofs.Limits.{Inside, outside-not, Outline, accepts-points, accepted-within}
 use Rattle.outline.proofs.PiecesAddUp.{pieces-add-up}
 use Rattle.outline.proofs.CallCases as Case
 use Rattle.outline.proofs.CallCases.{Taken, begun, extends, ends, abandoned}
-use Rattle.outline.proofs.Refusals.{not-28}
+use Rattle.outline.proofs.Refusals.{not-28, end-32, only-32}
+use Rattle.outline.proofs.TurnedTotals.{zero-zeroArea, zeroArea-zero}
 use Rattle.outline.proofs.WalkOf.{extended-is, closed-is, possible-walk, possible-closed}
 
 -- ---- what every list of calls keeps
 
-abbrev pub traceOf : List Position → Trace
-traceOf ps = record { walk = walkOf ps; points = ps }
+abbrev pub traceOf : Ring → Trace
+traceOf g = record { walk = walkOf g; ring = g }
 
--- The walk is closed, or it has taken the trace's points.
+-- The walk is closed, or it is that of the trace's ring.
 data Kept : Trace → Type 0 where
   not-open : {r : Trace} → r .walk .is_open ≡ false → Kept r
-  walking : (ps : List Position) → length ps ≤ 1024 → All Inside ps → Kept (traceOf ps)
+  walking : (k : Kind) (ps : List Position) → length ps ≤ 1024 → All Inside ps → Kept (traceOf (record { kind = k; points = ps }))
 
 -- A point more.
-point-keeps : {r : Trace} → Kept r → (p : Position) → r .walk .is_open ≡ true → outside p ≡ false → r .walk .count < 1024 → Kept (record { walk = extended (r .walk) p; points = r .points ++ p ∷ [] })
+point-keeps : {r : Trace} → Kept r → (p : Position) → r .walk .is_open ≡ true → outside p ≡ false → r .walk .count < 1024 → Kept (record { walk = extended (r .walk) p; ring = record { kind = r .ring .kind; points = r .ring .points ++ p ∷ [] } })
 point-keeps (not-open h) p e f m = absurd (true≢false (sym e ∙ h))
-point-keeps (walking ps n h) p e f m = subst (λ w. Kept (record { walk = w; points = ps ++ p ∷ [] })) (sym (extended-is ps p)) (walking (ps ++ p ∷ []) (omega (arith, length-append ps (p ∷ []))) (all-append Inside ps (p ∷ []) h (outside-not p f, tt)))
+point-keeps (walking k ps n h) p e f m =
+    subst (λ w. Kept (record { walk = w; ring = record { kind = k; points = ps ++ p ∷ [] } })) (sym (extended-is k ps p))
+    (walking k (ps ++ p ∷ []) (omega (arith, length-append ps (p ∷ []))) (all-append Inside ps (p ∷ []) h (outside-not p f, tt)))
 
 -- One clause for each call that is accepted.
-taken-keeps : {r : Trace} → Kept r → {c : Call} {left : Walk} → Taken (r .walk) c left → Kept (record { walk = left; points = pointsWith (r .points) c })
-unfolding pointsWith openEdges sumOver
-taken-keeps k (begun e) = walking [] zero-le tt
+taken-keeps : {r : Trace} → Kept r → {c : Call} {left : Walk} → Taken (r .walk) c left → Kept (record { walk = left; ring = ringWith (r .ring) c })
+unfolding ringWith openEdges sumOver
+taken-keeps k (begun j e) = walking j [] zero-le tt
 taken-keeps k (extends p e f m) = point-keeps k p e f m
 taken-keeps k (ends s e) = not-open refl
 taken-keeps k (abandoned e) = not-open refl
@@ -56,7 +59,7 @@ call-keeps : (c : Call) {r : Trace} → Kept r → Kept (next r c)
 unfolding next
 call-keeps c {r} k = go (numberOf (r .walk) c) (walkAfter (r .walk) c) (Case.call-case (r .walk) c)
   where
-    go : (n : ℕ) (left : Walk) → Case.CallCase (r .walk) c n left → Kept (record { walk = left; points = cond (eqb n 0) (pointsWith (r .points) c) (r .points) })
+    go : (n : ℕ) (left : Walk) → Case.CallCase (r .walk) c n left → Kept (record { walk = left; ring = cond (eqb n 0) (ringWith (r .ring) c) (r .ring) })
     go n left (Case.refused m e) = rw (ne-eqb m 0 (e .not-0)) k
     go n left (Case.accepted t) = taken-keeps k t
 
@@ -69,22 +72,19 @@ kept-after (c ∷ calls) k = kept-after calls (call-keeps c k)
 
 kept-possible : {r : Trace} → Kept r → impossibleWalk (r .walk) ≡ false
 kept-possible {r} (not-open h) = possible-closed (r .walk) h
-kept-possible (walking ps n h) = possible-walk ps n h
+kept-possible (walking k ps n h) = possible-walk k ps n h
 
-kept-walk : {r : Trace} → Kept r → r .walk .is_open ≡ true → r .walk ≡ walkOf (r .points)
+kept-walk : {r : Trace} → Kept r → r .walk .is_open ≡ true → r .walk ≡ walkOf (r .ring)
 kept-walk (not-open h) e = absurd (true≢false (sym e ∙ h))
-kept-walk (walking ps n h) e = refl
+kept-walk (walking k ps n h) e = refl
 
-closed-outline : {r : Trace} → Kept r → r .walk .is_open ≡ true → 3 ≤ r .walk .count → Outline (r .points) × (closedTotals (r .walk) ≡ outlineTotals (r .points))
-closed-outline (not-open h) e m = absurd (true≢false (sym e ∙ h))
-closed-outline (walking ps n h) e m = (record { enough = m; few = n; inside = h }, closed-is ps m)
+kept-outline : {r : Trace} → Kept r → Closable (r .walk) → Outline (r .ring .points) × (closedTotals (r .walk) ≡ outlineTotals (r .ring .points))
+kept-outline (not-open h) c = absurd (true≢false (sym (c .is-open) ∙ h))
+kept-outline (walking k ps n h) c = (record { enough = c .enough; few = n; inside = h }, closed-is k ps (c .enough))
 
-accepted-end : {r : Trace} → Kept r → (s : Sheet) → endCall (r .walk) s .number ≡ 0 → Outline (r .points) × (endCall (r .walk) s .totals ≡ outlineTotals (r .points))
-accepted-end {r} k s = go (endCall (r .walk) s) (Case.end-case (r .walk) s)
-  where
-    go : (e : EndOutcome) → Case.EndCase (r .walk) s e → e .number ≡ 0 → Outline (r .points) × (e .totals ≡ outlineTotals (r .points))
-    go e (Case.refused n h) z = absurd (h .not-0 z)
-    go e (Case.accepted h) z = closed-outline k (h .is-open) (h .enough)
+-- An accepted end answers the turned totals.
+kept-added : {r : Trace} → Kept r → Closable (r .walk) → addedTotals (r .walk) ≡ ringTotals (r .ring)
+kept-added {r} k c = ap (λ w. turned (w .kind) (closedTotals (r .walk))) (kept-walk k (c .is-open)) ∙ ap (turned (r .ring .kind)) (kept-outline k c .1)
 
 -- ---- the theorem
 
@@ -96,18 +96,22 @@ walked-outline k =
       possible = kept-possible kept;
       never-28 = not-28 (r .walk) (kept-possible kept);
       is-walk = kept-walk kept;
-      edge-sums = λ s e. accepted-end kept s e .1;
-      list-call-agrees = λ s e. let o = accepted-end kept s e in accepts-points (r .points) (o .0) ∙ ap accepted (sym (o .1));
+      edge-sums = λ c. kept-outline kept c .1;
+      list-call-agrees = λ c. let o = kept-outline kept c in accepts-points (r .ring .points) (o .0) ∙ ap accepted (sym (o .1));
+      closable = λ s z. Case.end-accepted (r .walk) s z .0 .closable;
+      answered = λ s z. let (h, e) = Case.end-accepted (r .walk) s z in ap (λ e. e .totals) e ∙ kept-added kept (h .closable);
+      zero-area = λ c s m z. ap (λ e. e .number) (end-32 (r .walk) s (kept-possible kept) m c (zero-zeroArea (closedTotals (r .walk)) (ap (λ t. t .a2) (kept-outline kept c .1) ∙ z)));
+      only-zero-area = λ s z. let (c, h) = only-32 (r .walk) s z in sym (ap (λ t. t .a2) (kept-outline kept c .1)) ∙ zeroArea-zero (closedTotals (r .walk)) h;
     }
 
--- The totals of an accepted end are within the outline bounds,
-pub walked-within : (k : Walking) (s : Sheet) → endCall (reached k .walk) s .number ≡ 0 → exceed outlineBounds (endCall (reached k .walk) s .totals) ≡ false
-walked-within k s e = accepted-within (numbers (reached k .points)) (endCall (reached k .walk) s .totals) (walked-outline k .list-call-agrees s e)
+-- The totals with the closing edge are within the outline bounds,
+pub walked-within : (k : Walking) → Closable (reached k .walk) → exceed outlineBounds (closedTotals (reached k .walk)) ≡ false
+walked-within k c = accepted-within (numbers (reached k .ring .points)) (closedTotals (reached k .walk)) (walked-outline k .list-call-agrees c)
 
 -- and demand 3 holds of them and of the points, whole.
 pub walked-pieces : WalkedPieces
-walked-pieces k s e cuts start direction m allowed bounds =
+walked-pieces k c cuts start direction m allowed bounds =
     let r = reached k in
-    let q = points-numbers (r .points) in
-    subst (λ ps. AddUpMoved m direction (endCall (r .walk) s .totals) (map (moved m) (placed direction start (piecesOf ps cuts)))) q
-    (pieces-add-up (numbers (r .points)) (endCall (r .walk) s .totals) (walked-outline k .list-call-agrees s e) cuts start direction m allowed (ap (λ ps. anyOutside (moved m ps)) q ∙ bounds))
+    let q = points-numbers (r .ring .points) in
+    subst (λ ps. AddUpMoved m direction (closedTotals (r .walk)) (map (moved m) (placed direction start (piecesOf ps cuts)))) q
+    (pieces-add-up (numbers (r .ring .points)) (closedTotals (r .walk)) (walked-outline k .list-call-agrees c) cuts start direction m allowed (ap (λ ps. anyOutside (moved m ps)) q ∙ bounds))

@@ -7,6 +7,7 @@ use Rattle.outline.specs.declared.Position.{Position}
 use Rattle.outline.specs.declared.Totals.{Totals}
 use Rattle.outline.specs.declared.Sizes.{Sizes}
 use Rattle.outline.specs.declared.AffineMap.{AffineMap}
+use Rattle.outline.specs.declared.Kind.the-variants.{Island, Hole}
 use Rattle.outline.specs.declared.Walk.{Walk}
 use Rattle.outline.specs.WalkCalls.{origin, openWalk}
 
@@ -28,17 +29,17 @@ eachAlone f b =
     ∷ record { a2 = pos 0; x6 = pos 0; y6 = pos 0; xx12 = pos 0; xy24 = pos 0; yy12 = f (b .yy12) }
     ∷ []
 
--- An open walk of n points that are all the origin.
+-- An open walk of n points that are all the origin: an island.
 abbrev pub openOf : ℕ → Totals → Walk
-openOf n t = openWalk n origin origin t
+openOf n t = openWalk Island n origin origin t
 
 -- The walk marked closed, all else as it is.
 abbrev pub markedClosed : Walk → Walk
-markedClosed w = record { is_open = false; count = w .count; first = w .first; last = w .last; totals = w .totals }
+markedClosed w = record { is_open = false; kind = w .kind; count = w .count; first = w .first; last = w .last; totals = w .totals }
 
--- Marked closed, with fields that no call leaves, and that 28 refuses of an open walk.
+-- Marked closed, with fields that no call leaves, and that 28 refuses of an open walk. A hole.
 abbrev pub leftover : Walk
-leftover = markedClosed (openWalk 1025 (at (pos 1) (pos 2)) origin (area 5))
+leftover = markedClosed (openWalk Hole 1025 (at (pos 1) (pos 2)) origin (area 5))
 
 -- The map that doubles.
 abbrev pub doubling : AffineMap

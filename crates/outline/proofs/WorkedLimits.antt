@@ -9,12 +9,14 @@ use Rattle.outline.specs.declared.Position.{Position}
 use Rattle.outline.specs.declared.Totals.{Totals}
 use Rattle.outline.specs.declared.Sizes.{Sizes}
 use Rattle.outline.specs.declared.AffineMap.{AffineMap}
-use Rattle.outline.specs.EdgeSums.{zeros, over, exceed}
+use Rattle.outline.specs.declared.Kind.{Kind}
+use Rattle.outline.specs.declared.Kind.the-variants.{Island, Hole}
+use Rattle.outline.specs.EdgeSums.{zeros, plus, negated, over, exceed}
 use Rattle.outline.specs.ListCall.{points, outside, anyOutside, wrongLength, listCall}
 use Rattle.outline.specs.MapCall.{disallowed, mapCall}
-use Rattle.outline.specs.WalkCalls.{origin, openWalk, opened, closed, sheetOf, newSheet, extended, impossibleWalk, impossibleSheet, pointCall, endCall, abandonCall}
+use Rattle.outline.specs.WalkCalls.{origin, openWalk, opened, closed, sheetOf, newSheet, extended, hasSign, turned, zeroArea, impossibleWalk, impossibleSheet, pointCall, endCall, abandonCall}
 use Rattle.outline.proofs.PiecesLaws.{identity}
-use Rattle.outline.proofs.WorkedInputs.{at, eachAlone, openOf, doubling}
+use Rattle.outline.proofs.WorkedInputs.{at, area, eachAlone, openOf, doubling}
 
 -- ---- the six totals
 
@@ -62,18 +64,37 @@ map-bounds = record { greatest = refl; least = refl; above = refl; below = refl 
 abbrev allTotals : ℤ → Totals
 allTotals z = record { a2 = z; x6 = z; y6 = z; xx12 = z; xy24 = z; yy12 = z }
 
+-- A2 alone, and each of the others beside an A2 of 1, since a ring of zero area is refused with 32.
+abbrev withArea : ℕ → List Totals
+withArea n = area n ∷ map (plus (area 1)) (drop 1 (eachAlone pos (allSizes n)))
+
+-- An island with such totals, and a hole with these below zero.
+abbrev raised : List Totals → List ℕ
+raised ts = map (λ t. endCall (openWalk Island 3 origin origin t) (sheetOf 0 (allTotals (pos 999_999_999_999_999_999))) .number) ts
+
+abbrev lowered : List Totals → List ℕ
+lowered ts = map (λ t. endCall (openWalk Hole 3 origin origin (negated t)) (sheetOf 0 (allTotals (negsuc 999_999_999_999_999_998))) .number) ts
+
 record Filled : Type 0 where
-  up : map (λ t. endCall (openOf 3 t) (sheetOf 0 (allTotals (pos 999_999_999_999_999_999))) .number) (eachAlone pos (allSizes 1) ++ eachAlone pos (allSizes 2)) ≡ replicate 6 0 ++ replicate 6 26
-  down : map (λ t. endCall (openOf 3 t) (sheetOf 0 (allTotals (negsuc 999_999_999_999_999_998))) .number) (eachAlone negsuc (allSizes 0) ++ eachAlone negsuc (allSizes 1)) ≡ replicate 6 0 ++ replicate 6 26
+  up : raised (withArea 1 ++ withArea 2) ≡ replicate 6 0 ++ replicate 6 26
+  down : lowered (withArea 1 ++ withArea 2) ≡ replicate 6 0 ++ replicate 6 26
 
 filled : Filled
-unfolding over exceed outside impossibleWalk impossibleSheet endCall
+unfolding over exceed outside hasSign turned zeroArea impossibleWalk impossibleSheet endCall
 filled = record { up = refl; down = refl }
 
--- The closing edge, from (0,1) to (1,0), adds -1 to each total: 26 looks at the sums with it.
-with-closing-edge : map (λ t. endCall (openWalk 3 (at (pos 1) (pos 0)) (at (pos 0) (pos 1)) t) (sheetOf 0 (allTotals (pos 1_000_000_000_000_000_000))) .number) (eachAlone pos (allSizes 1) ++ eachAlone pos (allSizes 2)) ≡ replicate 6 0 ++ replicate 6 26
-unfolding over exceed outside impossibleWalk impossibleSheet endCall
+-- The closing edge, from (0,1) to (1,0), adds -1 to each total: 26 looks at the sums with it. Each total fills the sheet's, and none has room for 1 more.
+with-closing-edge : map (λ t. endCall (openWalk Island 3 (at (pos 1) (pos 0)) (at (pos 0) (pos 1)) (plus (allTotals (pos 2)) t)) (sheetOf 0 (allTotals (pos 999_999_999_999_999_999))) .number) (zeros ∷ eachAlone pos (allSizes 1)) ≡ 0 ∷ replicate 6 26
+unfolding over exceed outside hasSign turned zeroArea impossibleWalk impossibleSheet endCall
 with-closing-edge = refl
+
+-- 32: an A2 of 0 with the closing edge, whatever the other totals are, and either kind.
+abbrev ended : Kind → List ℕ
+ended k = map (λ t. endCall (openWalk k 3 (at (pos 1) (pos 0)) (at (pos 0) (pos 1)) t) newSheet .number) (area 1 ∷ allTotals (pos 1) ∷ allTotals (pos 2) ∷ zeros ∷ record { a2 = pos 1; x6 = pos 7; y6 = pos 7; xx12 = pos 7; xy24 = pos 7; yy12 = pos 7 } ∷ [])
+
+zero-area : ended Island ++ ended Hole ≡ 32 ∷ 32 ∷ 0 ∷ 0 ∷ 32 ∷ 32 ∷ 32 ∷ 0 ∷ 0 ∷ 32 ∷ []
+unfolding over exceed outside hasSign turned zeroArea impossibleWalk impossibleSheet endCall
+zero-area = refl
 
 -- 5: doubled, a second moment is 16 times as large: 10^18 is taken, and 10^18 + 16 is not. (A2, X6 and Y6 that 4 takes are never mapped so far.)
 abbrev doubled : (ℕ → ℤ) → ℕ → List ℕ
@@ -88,17 +109,17 @@ unfolding over exceed disallowed mapCall
 mapped = record { up = refl; down = refl }
 
 -- One past 10^18, under maps with a d of 1: XX12 by one YY12 more, YY12 by one XX12 more, and XY24 by one XY24 less and two YY12 more.
-abbrev turned : AffineMap → ℤ → ℤ → ℤ → ℤ → ℤ → ℕ
-turned m x6 y6 xx12 xy24 yy12 = mapCall m (record { a2 = pos 0; x6 = x6; y6 = y6; xx12 = xx12; xy24 = xy24; yy12 = yy12 }) .number
+abbrev numberUnder : AffineMap → ℤ → ℤ → ℤ → ℤ → ℤ → ℕ
+numberUnder m x6 y6 xx12 xy24 yy12 = mapCall m (record { a2 = pos 0; x6 = x6; y6 = y6; xx12 = xx12; xy24 = xy24; yy12 = yy12 }) .number
 
 abbrev xx12Past : (ℕ → ℤ) → ℕ → ℕ
-xx12Past f n = turned (record { a = pos 2; b = pos 1; g = negsuc 0; h = pos 0; e = pos 2000; f = pos 0 }) (f 13_348_000_000_000) (pos 0) (f 98_304_000_000_000_000) (f 196_608_000_000_000_000) (f n)
+xx12Past f n = numberUnder (record { a = pos 2; b = pos 1; g = negsuc 0; h = pos 0; e = pos 2000; f = pos 0 }) (f 13_348_000_000_000) (pos 0) (f 98_304_000_000_000_000) (f 196_608_000_000_000_000) (f n)
 
 abbrev yy12Past : (ℕ → ℤ) → ℕ → ℕ
-yy12Past f n = turned (record { a = pos 0; b = negsuc 0; g = pos 1; h = pos 2; e = pos 0; f = pos 2000 }) (pos 0) (f 13_348_000_000_000) (f n) (f 196_608_000_000_000_000) (f 98_304_000_000_000_000)
+yy12Past f n = numberUnder (record { a = pos 0; b = negsuc 0; g = pos 1; h = pos 2; e = pos 0; f = pos 2000 }) (pos 0) (f 13_348_000_000_000) (f n) (f 196_608_000_000_000_000) (f 98_304_000_000_000_000)
 
 abbrev xy24Past : (ℕ → ℤ) → ℕ → ℕ
-xy24Past f n = turned (record { a = pos 2; b = pos 1; g = pos 1; h = pos 1; e = pos 0; f = pos 0 }) (pos 0) (pos 0) (f 98_304_000_000_000_000) (f (196_608_000_000_000_000 - n)) (f (8_480_000_000_000_000 + 2 * n))
+xy24Past f n = numberUnder (record { a = pos 2; b = pos 1; g = pos 1; h = pos 1; e = pos 0; f = pos 0 }) (pos 0) (pos 0) (f 98_304_000_000_000_000) (f (196_608_000_000_000_000 - n)) (f (8_480_000_000_000_000 + 2 * n))
 
 abbrev bothSigns : ((ℕ → ℤ) → ℕ → ℕ) → List ℕ
 bothSigns number = map (number pos) (0 ∷ 1 ∷ []) ++ map (number (λ n. negℤ (pos n))) (0 ∷ 1 ∷ [])
@@ -118,12 +139,12 @@ beyond = at (pos 2001) (pos 0) ∷ at (pos 0) (pos 2001) ∷ at (negsuc 2000) (p
 
 record Coordinates : Type 0 where
   -- 1, of a point and of the first and the last point of a list
-  point : map (λ p. pointCall opened p .number) (inside ++ beyond) ≡ replicate 4 0 ++ replicate 4 1
+  point : map (λ p. pointCall (opened Island) p .number) (inside ++ beyond) ≡ replicate 4 0 ++ replicate 4 1
   first-listed : map (λ p. listCall (p .x ∷ p .y ∷ pos 0 ∷ pos 0 ∷ pos 1 ∷ pos 1 ∷ []) .number) (inside ++ beyond) ≡ replicate 4 0 ++ replicate 4 1
   last-listed : map (λ p. listCall (pos 0 ∷ pos 0 ∷ pos 1 ∷ pos 1 ∷ p .x ∷ p .y ∷ []) .number) (inside ++ beyond) ≡ replicate 4 0 ++ replicate 4 1
   -- 28, of the first and the last point of a walk
-  first-walked : map (λ p. abandonCall (openWalk 1 p origin zeros) .number) (inside ++ beyond) ≡ replicate 4 0 ++ replicate 4 28
-  last-walked : map (λ p. abandonCall (openWalk 1 origin p zeros) .number) (inside ++ beyond) ≡ replicate 4 0 ++ replicate 4 28
+  first-walked : map (λ p. abandonCall (openWalk Island 1 p origin zeros) .number) (inside ++ beyond) ≡ replicate 4 0 ++ replicate 4 28
+  last-walked : map (λ p. abandonCall (openWalk Island 1 origin p zeros) .number) (inside ++ beyond) ≡ replicate 4 0 ++ replicate 4 28
 
 coordinates : Coordinates
 unfolding over exceed points outside anyOutside wrongLength listCall extended impossibleWalk pointCall abandonCall
@@ -137,12 +158,12 @@ record Counts : Type 0 where
   -- 23, and 28 of the walk
   points-walked : map (λ n. pointCall (openOf n zeros) origin .number) (1023 ∷ 1024 ∷ 1025 ∷ []) ≡ 0 ∷ 23 ∷ 28 ∷ []
   -- 24
-  points-ended : map (λ n. endCall (openOf n zeros) newSheet .number) (2 ∷ 3 ∷ 1024 ∷ []) ≡ 24 ∷ 0 ∷ 0 ∷ []
+  points-ended : map (λ n. endCall (openOf n (area 1)) newSheet .number) (2 ∷ 3 ∷ 1024 ∷ []) ≡ 24 ∷ 0 ∷ 0 ∷ []
   -- 25, and 28 of the sheet
-  outlines : map (λ n. endCall (openOf 3 zeros) (sheetOf n zeros) .number) (63 ∷ 64 ∷ 65 ∷ []) ≡ 0 ∷ 25 ∷ 28 ∷ []
+  outlines : map (λ n. endCall (openOf 3 (area 1)) (sheetOf n zeros) .number) (63 ∷ 64 ∷ 65 ∷ []) ≡ 0 ∷ 25 ∷ 28 ∷ []
 
 counts : Counts
-unfolding over exceed points outside anyOutside wrongLength listCall extended impossibleWalk impossibleSheet pointCall endCall
+unfolding over exceed points outside anyOutside wrongLength listCall extended hasSign turned zeroArea impossibleWalk impossibleSheet pointCall endCall
 counts = record { listed = refl; points-walked = refl; points-ended = refl; outlines = refl }
 
 -- ---- maps

@@ -8,10 +8,11 @@ use Rattle.outline.specs.declared.Position.{Position}
 use Rattle.outline.specs.declared.Totals.{Totals}
 use Rattle.outline.specs.declared.AffineMap.{AffineMap}
 use Rattle.outline.specs.declared.Walk.{Walk}
+use Rattle.outline.specs.declared.Kind.the-variants.{Island}
 use Rattle.outline.specs.EdgeSums.{zeros, over, exceed}
 use Rattle.outline.specs.ListCall.{points, outside, anyOutside, wrongLength, listCall}
 use Rattle.outline.specs.MapCall.{disallowed, mapCall}
-use Rattle.outline.specs.WalkCalls.{origin, closed, sheetOf, newSheet, impossibleWalk, impossibleSheet, beginCall, pointCall, endCall, abandonCall}
+use Rattle.outline.specs.WalkCalls.{origin, closed, sheetOf, newSheet, hasSign, turned, zeroArea, impossibleWalk, impossibleSheet, beginCall, pointCall, endCall, abandonCall}
 use Rattle.outline.proofs.WorkedInputs.{at, area, openOf, markedClosed, doubling}
 
 -- A point that 1 refuses.
@@ -35,8 +36,8 @@ most = area 1_000_000_000_000_000_000
 
 -- Order 28, 22.
 record Begin : Type 0 where
-  impossible-22 : beginCall impossible .number ≡ 28
-  only-22 : beginCall (openOf 3 zeros) .number ≡ 22
+  impossible-22 : beginCall impossible Island .number ≡ 28
+  only-22 : beginCall (openOf 3 zeros) Island .number ≡ 22
 
 begin : Begin
 unfolding over exceed outside impossibleWalk beginCall
@@ -54,29 +55,43 @@ point : Point
 unfolding over exceed outside impossibleWalk pointCall
 point = record { impossible-1 = refl; impossible-23 = refl; closed-1 = refl; closed-23 = refl; far-23 = refl }
 
--- Order 28, 21, 24, 25, 26.
+-- Zero area, and another total that no sheet with that total at its limit can take.
+abbrev flat : Totals
+flat = record { a2 = pos 0; x6 = pos 1; y6 = pos 0; xx12 = pos 0; xy24 = pos 0; yy12 = pos 0 }
+
+abbrev mostX6 : Totals
+mostX6 = record { a2 = pos 0; x6 = pos 1_000_000_000_000_000_000; y6 = pos 0; xx12 = pos 0; xy24 = pos 0; yy12 = pos 0 }
+
+-- Order 28, 21, 24, 32, 25, 26.
 record End : Type 0 where
   -- 28, of the sheet and of the walk
   sheet-21 : endCall closedArea (sheetOf 65 zeros) .number ≡ 28
   sheet-24 : endCall (openOf 2 zeros) (sheetOf 65 zeros) .number ≡ 28
   walk-24 : endCall (openOf 2 (area 16_000_001)) newSheet .number ≡ 28
-  walk-25 : endCall impossible (sheetOf 64 zeros) .number ≡ 28
+  sheet-32 : endCall (openOf 3 zeros) (sheetOf 65 zeros) .number ≡ 28
+  walk-32 : endCall impossible newSheet .number ≡ 28
+  walk-25 : endCall (openOf 3 (area 24_000_001)) (sheetOf 64 zeros) .number ≡ 28
   walk-26 : endCall (openOf 3 (area 24_000_001)) (sheetOf 0 most) .number ≡ 28
-  sheet-26 : endCall (openOf 3 zeros) (sheetOf 0 (area 1_000_000_000_000_000_001)) .number ≡ 28
+  sheet-26 : endCall (openOf 3 (area 1)) (sheetOf 0 (area 1_000_000_000_000_000_001)) .number ≡ 28
   -- 21
   closed-24 : endCall closed newSheet .number ≡ 21
+  closed-32 : endCall (markedClosed (openOf 3 zeros)) newSheet .number ≡ 21
   closed-25 : endCall closedArea (sheetOf 64 zeros) .number ≡ 21
   closed-26 : endCall closedArea (sheetOf 0 most) .number ≡ 21
   -- 24
-  few-25 : endCall (openOf 2 zeros) (sheetOf 64 zeros) .number ≡ 24
+  few-32 : endCall (openOf 2 zeros) newSheet .number ≡ 24
+  few-25 : endCall (openOf 2 (area 1)) (sheetOf 64 zeros) .number ≡ 24
   few-26 : endCall (openOf 2 (area 1)) (sheetOf 0 most) .number ≡ 24
+  -- 32
+  flat-25 : endCall (openOf 3 zeros) (sheetOf 64 zeros) .number ≡ 32
+  flat-26 : endCall (openOf 3 flat) (sheetOf 0 mostX6) .number ≡ 32
   -- 25
   full-26 : endCall (openOf 3 (area 1)) (sheetOf 64 most) .number ≡ 25
   only-26 : endCall (openOf 3 (area 1)) (sheetOf 63 most) .number ≡ 26
 
 end : End
-unfolding over exceed outside impossibleWalk impossibleSheet endCall
-end = record { sheet-21 = refl; sheet-24 = refl; walk-24 = refl; walk-25 = refl; walk-26 = refl; sheet-26 = refl; closed-24 = refl; closed-25 = refl; closed-26 = refl; few-25 = refl; few-26 = refl; full-26 = refl; only-26 = refl }
+unfolding over exceed outside hasSign turned zeroArea impossibleWalk impossibleSheet endCall
+end = record { sheet-21 = refl; sheet-24 = refl; walk-24 = refl; sheet-32 = refl; walk-32 = refl; walk-25 = refl; walk-26 = refl; sheet-26 = refl; closed-24 = refl; closed-32 = refl; closed-25 = refl; closed-26 = refl; few-32 = refl; few-25 = refl; few-26 = refl; flat-25 = refl; flat-26 = refl; full-26 = refl; only-26 = refl }
 
 -- Order 28, 21.
 record Abandon : Type 0 where

@@ -1,4 +1,4 @@
--- Document 01, "Walk and sheet": lists of calls on one walk, and lists of ends on one sheet.
+-- Document 01, "Walk and sheet", and document 02, CR 3: lists of calls on one walk, and lists of ends on one sheet.
 use Prim.Native.Nat.{ℕ}
 use mathlib.Core.Path.{_≡_}
 use mathlib.Core.Bool.{Bool, false, cond}
@@ -7,54 +7,61 @@ use lib.Dec.{eqb}
 use lib.ListN.{length, getD}
 use Rattle.outline.specs.declared.Position.{Position}
 use Rattle.outline.specs.declared.Totals.{Totals}
+use Rattle.outline.specs.declared.Kind.{Kind}
+use Rattle.outline.specs.declared.Kind.the-variants.{Island}
 use Rattle.outline.specs.declared.Walk.{Walk}
 use Rattle.outline.specs.declared.Sheet.{Sheet}
-use Rattle.outline.specs.EdgeSums.{openEdges, totalsOver}
-use Rattle.outline.specs.WalkCalls.{origin, openWalk, beginCall, pointCall, endCall, abandonCall, impossibleSheet}
+use Rattle.outline.specs.EdgeSums.{openEdges, totalsOver, outlineTotals}
+use Rattle.outline.specs.WalkCalls.{origin, openWalk, turned, beginCall, pointCall, endCall, abandonCall, impossibleSheet}
 
 -- ---- calls on a walk
 
 -- Every end may have a sheet of its own.
 pub data Call : Type 0 where
-  begin : Call
+  begin : Kind → Call
   point : Position → Call
   end : Sheet → Call
   abandon : Call
 
 -- The number that a call on the walk w answers, and the walk that it leaves.
 unfoldable pub numberOf : Walk → Call → ℕ
-numberOf w begin = beginCall w .number
+numberOf w (begin k) = beginCall w k .number
 numberOf w (point p) = pointCall w p .number
 numberOf w (end s) = endCall w s .number
 numberOf w abandon = abandonCall w .number
 
 unfoldable pub walkAfter : Walk → Call → Walk
-walkAfter w begin = beginCall w .walk
+walkAfter w (begin k) = beginCall w k .walk
 walkAfter w (point p) = pointCall w p .walk
 walkAfter w (end s) = endCall w s .walk
 walkAfter w abandon = abandonCall w .walk
 
 -- The call hands in a sheet that 28 refuses.
 unfoldable pub impossibleSheetIn : Call → Bool
-impossibleSheetIn begin = false
+impossibleSheetIn (begin k) = false
 impossibleSheetIn (point p) = false
 impossibleSheetIn (end s) = impossibleSheet s
 impossibleSheetIn abandon = false
 
--- What an accepted call does to the points taken since the walk was opened.
-unfoldable pub pointsWith : List Position → Call → List Position
-pointsWith ps begin = []
-pointsWith ps (point p) = ps ++ p ∷ []
-pointsWith ps (end s) = ps
-pointsWith ps abandon = ps
-
--- A walk, and the points that it has taken since it was last opened.
-pub record Trace : Type 0 where
-  pub walk : Walk
+-- Document 02's word for a walked outline: the kind that begin was given, and the points taken since.
+pub record Ring : Type 0 where
+  pub kind : Kind
   pub points : List Position
 
+-- What an accepted call does to the ring.
+unfoldable pub ringWith : Ring → Call → Ring
+ringWith g (begin k) = record { kind = k; points = [] }
+ringWith g (point p) = record { kind = g .kind; points = g .points ++ p ∷ [] }
+ringWith g (end s) = g
+ringWith g abandon = g
+
+-- A walk, and the ring that it has walked since it was last opened.
+pub record Trace : Type 0 where
+  pub walk : Walk
+  pub ring : Ring
+
 unfoldable pub next : Trace → Call → Trace
-next r c = record { walk = walkAfter (r .walk) c; points = cond (eqb (numberOf (r .walk) c) 0) (pointsWith (r .points) c) (r .points) }
+next r c = record { walk = walkAfter (r .walk) c; ring = cond (eqb (numberOf (r .walk) c) 0) (ringWith (r .ring) c) (r .ring) }
 
 -- The calls of a list, one after another on the same walk.
 unfoldable pub after : Trace → List Call → Trace
@@ -63,9 +70,9 @@ after r (c ∷ calls) = after (next r c) calls
 
 -- Before the first call.
 abbrev pub from : Walk → Trace
-from w = record { walk = w; points = [] }
+from w = record { walk = w; ring = record { kind = Island; points = [] } }
 
--- The walk that begin and then the points ps make: their number, the first and the last of them, and the sums over the edges from each to the next.
+-- The walk that begin and then the points of a ring make: its kind, their number, the first and the last of them, and the sums over the edges from each to the next.
 abbrev pub firstOf : List Position → Position
 firstOf ps = getD ps 0 origin
 
@@ -73,8 +80,12 @@ abbrev pub lastOf : List Position → Position
 lastOf [] = origin
 lastOf (a ∷ ps) = getD (a ∷ ps) (length ps) origin
 
-abbrev pub walkOf : List Position → Walk
-walkOf ps = openWalk (length ps) (firstOf ps) (lastOf ps) (totalsOver (openEdges ps))
+abbrev pub walkOf : Ring → Walk
+walkOf g = let ps = g .points in openWalk (g .kind) (length ps) (firstOf ps) (lastOf ps) (totalsOver (openEdges ps))
+
+-- The totals of a ring as they count: the sums over all edges, the closing edge among them, turned by its kind.
+abbrev pub ringTotals : Ring → Totals
+ringTotals g = turned (g .kind) (outlineTotals (g .points))
 
 -- ---- ends on a sheet, each with whichever walk
 
@@ -98,9 +109,9 @@ pub record Walking : Type 0 where
 abbrev pub reached : Walking → Trace
 reached k = after (from (k .start)) (k .calls)
 
--- The points of those walks whose end the sheet accepted.
-unfoldable pub outlinesOn : Sheet → List Trace → List (List Position)
-outlinesOn s [] = []
-outlinesOn s (r ∷ rs) =
+-- The rings of those walks whose end the sheet accepted.
+unfoldable pub ringsOn : Sheet → List Trace → List Ring
+ringsOn s [] = []
+ringsOn s (r ∷ rs) =
     let e = endCall (r .walk) s in
-    cond (eqb (e .number) 0) (r .points ∷ outlinesOn (e .sheet) rs) (outlinesOn (e .sheet) rs)
+    cond (eqb (e .number) 0) (r .ring ∷ ringsOn (e .sheet) rs) (ringsOn (e .sheet) rs)

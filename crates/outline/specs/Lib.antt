@@ -8,5 +8,6 @@ pub mod CallLists
 pub mod PiecesAddUp
 pub mod WalkedOutline
 pub mod EveryOutline
+pub mod Rings
 pub mod SheetSums
 pub mod private

@@ -6,10 +6,9 @@ use lib.ListN.{length}
 use Rattle.outline.specs.declared.Totals.{Totals}
 use Rattle.outline.specs.declared.Walk.{Walk}
 use Rattle.outline.specs.declared.Sheet.{Sheet}
-use Rattle.outline.specs.EdgeSums.{outlineTotals}
 use Rattle.outline.specs.Pieces.{sumOf}
 use Rattle.outline.specs.WalkCalls.{newSheet, impossibleSheet}
-use Rattle.outline.specs.CallLists.{sheetAfter, addedBy, Walking, reached, outlinesOn}
+use Rattle.outline.specs.CallLists.{sheetAfter, addedBy, ringTotals, Walking, reached, ringsOn}
 
 -- What is claimed of a sheet, ts being the totals of the outlines that it has accepted.
 pub record HoldsSums (s : Sheet) (ts : List Totals) : Type 0 where
@@ -31,5 +30,5 @@ abbrev pub WalkedSheetSums : Type 0
 WalkedSheetSums =
     -- The same where each walk is made by calls from one marked closed:
     (ks : List Walking)
-    -- the sheet holds the edge sums over the points of those whose end was accepted, and nothing else.
-    → HoldsSums (sheetAfter newSheet (map (λ k. reached k .walk) ks)) (map outlineTotals (outlinesOn newSheet (map reached ks)))
+    -- the sheet holds, of each ring whose end was accepted, the edge sums over its points, turned by its kind, and nothing else.
+    → HoldsSums (sheetAfter newSheet (map (λ k. reached k .walk) ks)) (map ringTotals (ringsOn newSheet (map reached ks)))

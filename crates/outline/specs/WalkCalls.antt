@@ -1,14 +1,17 @@
--- Document 01, "Walk and sheet" and the refusals 1 and 21 to 28: the outcomes of begin, point, end and abandon.
+-- Document 01, "Walk and sheet" and the refusals 1 and 21 to 28, and document 02, CR 3: the outcomes of begin, point, end and abandon.
 use Prim.Native.Nat.{ℕ, _+_, _*_, _/_}
 use mathlib.Core.Bool.{Bool, true, false, not, _&&_, _||_, cond}
 use lib.Dec.{leb, ltb, eqb}
-use lib.IntN.{pos}
+use lib.IntN.{ℤ, pos, natAbs}
+use lib.Signed.{ltZ}
 use Rattle.outline.specs.declared.Position.{Position}
 use Rattle.outline.specs.declared.Totals.{Totals}
 use Rattle.outline.specs.declared.Sizes.{Sizes}
+use Rattle.outline.specs.declared.Kind.{Kind}
+use Rattle.outline.specs.declared.Kind.the-variants.{Island, Hole}
 use Rattle.outline.specs.declared.Walk.{Walk}
 use Rattle.outline.specs.declared.Sheet.{Sheet}
-use Rattle.outline.specs.EdgeSums.{six, plus, zeros, exceed, outlineBounds}
+use Rattle.outline.specs.EdgeSums.{six, plus, negated, zeros, exceed, outlineBounds}
 use Rattle.outline.specs.ListCall.{outside}
 use Rattle.outline.specs.MapCall.{totalLimits}
 
@@ -17,17 +20,17 @@ use Rattle.outline.specs.MapCall.{totalLimits}
 abbrev pub origin : Position
 origin = record { x = pos 0; y = pos 0 }
 
--- An open walk of n points: the first and the last of them, and the sums over the edges so far. Every open walk is made by it.
-abbrev pub openWalk : ℕ → Position → Position → Totals → Walk
-openWalk n first last t = record { is_open = true; count = n; first = first; last = last; totals = t }
+-- An open walk of n points: its kind, the first and the last of them, and the sums over the edges so far. Every open walk is made by it.
+abbrev pub openWalk : Kind → ℕ → Position → Position → Totals → Walk
+openWalk k n first last t = record { is_open = true; kind = k; count = n; first = first; last = last; totals = t }
 
--- A walk just begun: open, and all its numbers zero.
-abbrev pub opened : Walk
-opened = openWalk 0 origin origin zeros
+-- A walk just begun: open, of the kind asked for, and all its numbers zero.
+abbrev pub opened : Kind → Walk
+opened k = openWalk k 0 origin origin zeros
 
--- A walk that is over or not begun: not open, and all its numbers zero.
+-- A walk that is over or not begun: not open, an island, and all its numbers zero.
 abbrev pub closed : Walk
-closed = record { is_open = false; count = 0; first = origin; last = origin; totals = zeros }
+closed = record { is_open = false; kind = Island; count = 0; first = origin; last = origin; totals = zeros }
 
 -- A sheet of n outlines, and the sums of their totals.
 abbrev pub sheetOf : ℕ → Totals → Sheet
@@ -41,20 +44,33 @@ newSheet = sheetOf 0 zeros
 abbrev pub edgeTotals : Position → Position → Totals
 edgeTotals a b = six (λ t. t a b)
 
--- The open walk with one point more. From the second point on, the edge that leads to it is added.
+-- The open walk with one point more, of the same kind. From the second point on, the edge that leads to it is added.
 unfoldable pub extended : Walk → Position → Walk
 extended w p =
     cond (eqb (w .count) 0)
-    (openWalk 1 p p (w .totals))
-    (openWalk (w .count + 1) (w .first) p (plus (w .totals) (edgeTotals (w .last) p)))
+    (openWalk (w .kind) 1 p p (w .totals))
+    (openWalk (w .kind) (w .count + 1) (w .first) p (plus (w .totals) (edgeTotals (w .last) p)))
 
 -- The walk's totals with the closing edge.
 abbrev pub closedTotals : Walk → Totals
 closedTotals w = plus (w .totals) (edgeTotals (w .last) (w .first))
 
+-- Document 02, CR 3: the sign of A2 that a kind has. An island's area counts, a hole's is taken off.
+unfoldable pub hasSign : Kind → ℤ → Bool
+hasSign Island a = ltZ (pos 0) a
+hasSign Hole a = ltZ a (pos 0)
+
+-- The totals of a ring as they count: where A2 has not the sign of the kind, all six signs are turned.
+unfoldable pub turned : Kind → Totals → Totals
+turned k t = cond (hasSign k (t .a2)) t (negated t)
+
 -- The totals that an end adds to the sheet, and answers.
 abbrev pub addedTotals : Walk → Totals
-addedTotals w = closedTotals w
+addedTotals w = turned (w .kind) (closedTotals w)
+
+-- A ring of zero area has neither sign.
+unfoldable pub zeroArea : Totals → Bool
+zeroArea t = eqb (natAbs (t .a2)) 0
 
 -- The sheet with one outline more.
 abbrev pub sheetWith : Sheet → Totals → Sheet
@@ -106,11 +122,11 @@ abbrev pub refusedEnd : ℕ → Walk → Sheet → EndOutcome
 refusedEnd n w s = record { number = n; totals = zeros; walk = w; sheet = s }
 
 -- Order: 28, 22.
-unfoldable pub beginCall : Walk → WalkOutcome
-beginCall w =
+unfoldable pub beginCall : Walk → Kind → WalkOutcome
+beginCall w k =
     cond (impossibleWalk w) (refusedWalk 28 w)
     (cond (w .is_open) (refusedWalk 22 w)
-    (record { number = 0; walk = opened }))
+    (record { number = 0; walk = opened k }))
 
 -- Order: 28, 21, 1, 23.
 unfoldable pub pointCall : Walk → Position → WalkOutcome
@@ -121,15 +137,16 @@ pointCall w p =
     (cond (leb 1024 (w .count)) (refusedWalk 23 w)
     (record { number = 0; walk = extended w p }))))
 
--- Order: 28, 21, 24, 25, 26.
+-- Order: 28, 21, 24, 32, 25, 26. Refusal 32: a ring of zero area.
 unfoldable pub endCall : Walk → Sheet → EndOutcome
 endCall w s =
     cond (impossibleWalk w || impossibleSheet s) (refusedEnd 28 w s)
     (cond (not (w .is_open)) (refusedEnd 21 w s)
     (cond (ltb (w .count) 3) (refusedEnd 24 w s)
+    (cond (zeroArea (closedTotals w)) (refusedEnd 32 w s)
     (cond (leb 64 (s .count)) (refusedEnd 25 w s)
     (cond (exceed totalLimits (plus (s .totals) (addedTotals w))) (refusedEnd 26 w s)
-    (record { number = 0; totals = addedTotals w; walk = closed; sheet = sheetWith s (addedTotals w) })))))
+    (record { number = 0; totals = addedTotals w; walk = closed; sheet = sheetWith s (addedTotals w) }))))))
 
 -- Order: 28, 21.
 unfoldable pub abandonCall : Walk → WalkOutcome

@@ -1,39 +1,53 @@
--- Demands 2 and 3 for walked outlines, as statements. proofs/WalkedOutline and proofs/WalkedAgain have the proofs.
+-- Demands 2 and 3 for walked outlines, as statements. Since document 02's CR 3 they speak of the walk's totals with the closing edge, before any sign is turned, whether or
+-- not an end is then refused. proofs/WalkedOutline and proofs/WalkedAgain have the proofs.
 use mathlib.Core.Path.{_≡_}
 use mathlib.Core.Bool.{true, false}
 use mathlib.Core.List.{List, map}
 use mathlib.Core.Logic.{_≢_}
-use Prim.Native.Nat.{ℕ}
+use Prim.Native.Nat.{ℕ, _≤_}
+use lib.IntN.{pos}
 use Rattle.outline.specs.declared.AffineMap.{AffineMap}
+use Rattle.outline.specs.declared.Walk.{Walk}
 use Rattle.outline.specs.declared.Sheet.{Sheet}
 use Rattle.outline.specs.EdgeSums.{outlineTotals}
 use Rattle.outline.specs.ListCall.{accepted, numbers, anyOutside, listCall}
 use Rattle.outline.specs.MapCall.{moved, disallowed, mapCall}
 use Rattle.outline.specs.Pieces.{Cut, piecesOf, startAt, Direction, walked, placed, directed}
-use Rattle.outline.specs.WalkCalls.{impossibleWalk, endCall}
-use Rattle.outline.specs.CallLists.{Call, numberOf, impossibleSheetIn, Trace, walkOf, Walking, reached}
+use Rattle.outline.specs.WalkCalls.{closedTotals, impossibleWalk, impossibleSheet, endCall}
+use Rattle.outline.specs.CallLists.{Call, numberOf, impossibleSheetIn, Trace, walkOf, ringTotals, Walking, reached}
 use Rattle.outline.specs.PiecesAddUp.{AddUpMoved}
 
 -- ---- demand 2
 
--- What is claimed of a walk, and of the points of the accepted point calls since the last accepted begin.
+-- A walk that is open and has 3 points or more, so that 21 and 24 do not refuse its end.
+pub record Closable (w : Walk) : Type 0 where
+  pub is-open : w .is_open ≡ true
+  pub enough : 3 ≤ w .count
+
+-- What is claimed of a walk, and of its ring: the kind of the last accepted begin, and the points of the accepted point calls since.
 pub record IsOutline (r : Trace) : Type 0 where
   -- 28 takes the walk,
   pub possible : impossibleWalk (r .walk) ≡ false
   -- so no call on it answers 28, but an end with a sheet that 28 refuses.
   pub never-28 : (c : Call) → impossibleSheetIn c ≡ false → numberOf (r .walk) c ≢ 28
-  -- While the walk is open, it is the walk of the points: their number, their ends and the sums over their edges so far.
-  pub is-walk : r .walk .is_open ≡ true → r .walk ≡ walkOf (r .points)
-  -- An accepted end answers the sums over all edges of the points, the closing edge among them,
-  pub edge-sums : (s : Sheet) → endCall (r .walk) s .number ≡ 0 → endCall (r .walk) s .totals ≡ outlineTotals (r .points)
+  -- While the walk is open, it is the walk of the ring: its kind, the number of its points, their ends and the sums over their edges so far.
+  pub is-walk : r .walk .is_open ≡ true → r .walk ≡ walkOf (r .ring)
+  -- From 3 points on, its totals with the closing edge are the sums over all edges of the points,
+  pub edge-sums : Closable (r .walk) → closedTotals (r .walk) ≡ outlineTotals (r .ring .points)
   -- which is what the list call answers for the points.
-  pub list-call-agrees : (s : Sheet) → endCall (r .walk) s .number ≡ 0 → listCall (numbers (r .points)) ≡ accepted (endCall (r .walk) s .totals)
+  pub list-call-agrees : Closable (r .walk) → listCall (numbers (r .ring .points)) ≡ accepted (closedTotals (r .walk))
+  -- An end that is accepted is one of such a walk, and answers these totals, turned by the ring's kind.
+  pub closable : (s : Sheet) → endCall (r .walk) s .number ≡ 0 → Closable (r .walk)
+  pub answered : (s : Sheet) → endCall (r .walk) s .number ≡ 0 → endCall (r .walk) s .totals ≡ ringTotals (r .ring)
+  -- 32 is the answer where A2 is 0, on every sheet that 28 takes, and only there.
+  pub zero-area : Closable (r .walk) → (s : Sheet) → impossibleSheet s ≡ false → outlineTotals (r .ring .points) .a2 ≡ pos 0 → endCall (r .walk) s .number ≡ 32
+  pub only-zero-area : (s : Sheet) → endCall (r .walk) s .number ≡ 32 → outlineTotals (r .ring .points) .a2 ≡ pos 0
 
 abbrev pub WalkedOutline : Type 0
 WalkedOutline =
     -- For every walk marked closed and every list of calls from it on, refused ones included, the ends with whichever sheets,
     (k : Walking)
-    -- the claim holds of the walk and the points that they come to.
+    -- the claim holds of the walk and the ring that they come to.
     → IsOutline (reached k)
 
 -- ---- demand 3
@@ -42,10 +56,8 @@ abbrev pub WalkedPieces : Type 0
 WalkedPieces =
     -- For every walk marked closed and every list of calls from it on
     (k : Walking)
-    -- and every sheet
-    (s : Sheet)
-    -- with which the end is then accepted;
-    → endCall (reached k .walk) s .number ≡ 0
+    -- that leave the walk open with 3 points or more;
+    → Closable (reached k .walk)
     -- for every list of cuts, of any length, those that cannot be made included;
     → (cuts : List Cut)
     -- for every start in each piece, piece k from start k;
@@ -57,25 +69,20 @@ WalkedPieces =
     -- that 3 does not refuse, d = 0 included,
     → disallowed m ≡ false
     -- and that moves no point of the walk to where 1 refuses it:
-    → anyOutside (moved m (reached k .points)) ≡ false
-    -- the claim holds of the pieces of the walk's points, and of the totals that the end answers.
-    → AddUpMoved m direction (endCall (reached k .walk) s .totals) (map (moved m) (placed direction start (piecesOf (reached k .points) cuts)))
+    → anyOutside (moved m (reached k .ring .points)) ≡ false
+    -- the claim holds of the pieces of the walk's points, and of its totals with the closing edge.
+    → AddUpMoved m direction (closedTotals (reached k .walk)) (map (moved m) (placed direction start (piecesOf (reached k .ring .points) cuts)))
 
 -- Demand 3's last sentence: no cut, only another start, the other direction or a map.
 abbrev pub WalkedAgain : Type 0
 WalkedAgain =
-    -- For every walk that calls from one marked closed have made,
+    -- For every walk that calls from one marked closed have made
     (first : Walking)
-    -- every other such walk
-    (second : Walking)
-    -- and every sheet
-    (s : Sheet)
-    -- with which the first's end is accepted,
-    → endCall (reached first .walk) s .number ≡ 0
-    -- and every sheet
-    → (q : Sheet)
-    -- with which the second's end is accepted;
-    → endCall (reached second .walk) q .number ≡ 0
+    -- and left open with 3 points or more,
+    → Closable (reached first .walk)
+    -- and every other such walk;
+    → (second : Walking)
+    → Closable (reached second .walk)
     -- for every start,
     → (start : ℕ)
     -- either direction
@@ -85,8 +92,8 @@ WalkedAgain =
     -- that 3 does not refuse, d = 0 included,
     → disallowed m ≡ false
     -- and that moves no point of the first to where 1 refuses it:
-    → anyOutside (moved m (reached first .points)) ≡ false
+    → anyOutside (moved m (reached first .ring .points)) ≡ false
     -- if the second's points are the first's, so walked, started and moved,
-    → reached second .points ≡ moved m (startAt start (walked direction (reached first .points)))
-    -- the map call accepts the first end's totals, and answers the second's, with all six signs turned if walked backwards.
-    → mapCall m (endCall (reached first .walk) s .totals) ≡ accepted (directed direction (endCall (reached second .walk) q .totals))
+    → reached second .ring .points ≡ moved m (startAt start (walked direction (reached first .ring .points)))
+    -- the map call accepts the first's totals with the closing edge, and answers the second's, with all six signs turned if walked backwards.
+    → mapCall m (closedTotals (reached first .walk)) ≡ accepted (directed direction (closedTotals (reached second .walk)))

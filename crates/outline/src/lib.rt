@@ -48,9 +48,16 @@ pub struct AffineMap {
     pub f: i32,
 }
 
-// A walk that its caller holds: the open polyline walked so far, marked open or closed.
+// What the ring of a walk bounds: land, or a lake in it (document 02, CR 3).
+pub enum Kind {
+    Island,
+    Hole,
+}
+
+// A walk that its caller holds: the open polyline walked so far, marked open or closed, and the kind of its ring.
 pub struct Walk {
     pub is_open: bool,
+    pub kind: Kind,
     pub count: u32,
     pub first: Position,
     pub last: Position,
