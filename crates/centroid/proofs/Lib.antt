@@ -3,5 +3,4 @@ pub mod CentreLaw
 pub mod ReadingLaw
 pub mod WorkedCentres
 pub mod CentreLimits
-pub mod CodeTests
 pub mod Limits

@@ -1,4 +1,4 @@
--- What the code's test of equality says.
+-- What the code's test of a number for zero says.
 use Prim.Native.Nat.{suc}
 use mathlib.Core.Path.{_≡_, sym, _∙_, ap}
 use mathlib.Core.Bool.{true, false}

@@ -79,13 +79,14 @@ point-reading-one-to-one r s e = λ i. record { answer = (sym (point-back (r .an
 -- ---- end
 
 abbrev endOf : ℕ → Totals → EndAnswer
-endOf n t = cond (eqb n 28) end.Impossible (cond (eqb n 21) end.NotOpen (cond (eqb n 24) end.TooFewPoints (cond (eqb n 25) end.SheetFull (cond (eqb n 26) end.SheetExceeded (end.Accepted t)))))
+endOf n t = cond (eqb n 28) end.Impossible (cond (eqb n 21) end.NotOpen (cond (eqb n 24) end.TooFewPoints (cond (eqb n 32) end.ZeroArea (cond (eqb n 25) end.SheetFull (cond (eqb n 26) end.SheetExceeded (end.Accepted t))))))
 
 end-back : (a : EndAnswer) → endOf (endNumber a) (endTotals a) ≡ a
 end-back (end.Accepted t) = refl
 end-back end.Impossible = refl
 end-back end.NotOpen = refl
 end-back end.TooFewPoints = refl
+end-back end.ZeroArea = refl
 end-back end.SheetFull = refl
 end-back end.SheetExceeded = refl
 

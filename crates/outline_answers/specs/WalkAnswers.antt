@@ -50,13 +50,14 @@ pointNumber point.Full = 23
 abbrev pub pointReading : PointReply → WalkOutcome
 pointReading r = record { number = pointNumber (r .answer); walk = r .walk }
 
--- ---- end
+-- ---- end: 32 is of document 02, CR 3
 
 abbrev pub endNumber : EndAnswer → ℕ
 endNumber (end.Accepted t) = 0
 endNumber end.Impossible = 28
 endNumber end.NotOpen = 21
 endNumber end.TooFewPoints = 24
+endNumber end.ZeroArea = 32
 endNumber end.SheetFull = 25
 endNumber end.SheetExceeded = 26
 
@@ -65,6 +66,7 @@ endTotals (end.Accepted t) = t
 endTotals end.Impossible = zeros
 endTotals end.NotOpen = zeros
 endTotals end.TooFewPoints = zeros
+endTotals end.ZeroArea = zeros
 endTotals end.SheetFull = zeros
 endTotals end.SheetExceeded = zeros
 

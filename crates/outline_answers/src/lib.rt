@@ -116,12 +116,13 @@ pub enum EndAnswer {
     Impossible,
     NotOpen,
     TooFewPoints,
+    ZeroArea,
     SheetFull,
     SheetExceeded,
 }
 
 impl EndAnswer {
-    // The number of the refusal in document 01, 0 where there is none.
+    // The number of the refusal in document 01, or 02 for a zero area; 0 where there is none.
     pub fn number(self) -> u32
         ensures { λ r. ⌜ r ≡ endNumber self ⌝ }
     {
@@ -130,6 +131,7 @@ impl EndAnswer {
             EndAnswer::Impossible => 28,
             EndAnswer::NotOpen => 21,
             EndAnswer::TooFewPoints => 24,
+            EndAnswer::ZeroArea => 32,
             EndAnswer::SheetFull => 25,
             EndAnswer::SheetExceeded => 26,
         }

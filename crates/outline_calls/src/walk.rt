@@ -2,13 +2,16 @@
 ghost use mathlib.Core.Path.{_≡_};
 ghost use mathlib.Core.Bool.{true, false};
 ghost use Prim.Native.Nat.{_<_, _≤_};
+ghost use Rattle.outline.specs.EdgeSums.{negated, exceed};
 ghost use Rattle.outline.specs.ListCall.{outside};
-ghost use Rattle.outline.specs.WalkCalls.{extended, closedTotals, impossibleWalk, impossibleSheet, pointCall, endCall};
+ghost use Rattle.outline.specs.MapCall.{totalLimits};
+ghost use Rattle.outline.specs.WalkCalls.{extended, closedTotals, hasSign, turned, zeroArea, impossibleWalk, impossibleSheet, pointCall, endCall};
 ghost use Rattle.outline_answers.specs.WalkAnswers.{pointReading, endReading};
 use crate::add;
 use crate::add_edge;
 use limits::outside_limits;
 use limits::position_outside;
+use outline::Kind;
 use outline::Position;
 use outline::Sheet;
 use outline::Totals;
@@ -22,7 +25,7 @@ use walk_state::impossible_walk;
 use walk_state::new_walk;
 use walk_state::open_walk;
 
-// The walk with one point more.
+// The walk with one point more, of the same kind.
 fn extended_walk(w: Walk, p: Position) -> Walk
     requires { ⌜ impossibleWalk w ≡ false ⌝ }
     requires { ⌜ w .is_open ≡ true ⌝ }
@@ -30,14 +33,15 @@ fn extended_walk(w: Walk, p: Position) -> Walk
     requires { ⌜ outside p ≡ false ⌝ }
     ensures { λ r. ⌜ r ≡ extended w p ⌝ }
 {
+    let kind = w.kind;
     let totals = w.totals;
     if w.count == 0 {
-        return open_walk(1, p, p, totals);
+        return open_walk(kind, 1, p, p, totals);
     }
     let first = w.first;
     let last = w.last;
     let sum = add_edge(totals, last, p);
-    open_walk(w.count + 1, first, p, sum)
+    open_walk(kind, w.count + 1, first, p, sum)
 }
 
 pub fn point(w: Walk, x: i32, y: i32) -> PointReply
@@ -88,6 +92,48 @@ fn closed_totals(w: Walk) -> Totals
     add_edge(totals, last, first)
 }
 
+// Whether A2 has the sign that the kind has.
+fn has_sign(kind: Kind, a2: i64) -> bool
+    ensures { λ r. ⌜ r ≡ hasSign kind a2 ⌝ }
+{
+    match kind {
+        Kind::Island => 0 < a2,
+        Kind::Hole => a2 < 0,
+    }
+}
+
+// All six signs turned.
+fn negate(t: Totals) -> Totals
+    requires { ⌜ exceed totalLimits t ≡ false ⌝ }
+    ensures { λ r. ⌜ r ≡ negated t ⌝ }
+{
+    let a2 = t.a2;
+    let x6 = t.x6;
+    let y6 = t.y6;
+    let xx12 = t.xx12;
+    let xy24 = t.xy24;
+    let yy12 = t.yy12;
+    Totals {
+        a2: -a2,
+        x6: -x6,
+        y6: -y6,
+        xx12: -xx12,
+        xy24: -xy24,
+        yy12: -yy12,
+    }
+}
+
+// The totals of a ring as they count.
+fn turn(kind: Kind, ring: Totals) -> Totals
+    requires { ⌜ exceed totalLimits ring ≡ false ⌝ }
+    ensures { λ r. ⌜ r ≡ turned kind ring ⌝ }
+{
+    if has_sign(kind, ring.a2) {
+        return ring;
+    }
+    negate(ring)
+}
+
 fn refused_end(answer: EndAnswer, held: Walk, sheet: Sheet) -> EndReply
     ensures { λ r. ⌜ r ≡ record { answer = answer; walk = held; sheet = sheet } ⌝ }
 {
@@ -98,16 +144,19 @@ fn refused_end(answer: EndAnswer, held: Walk, sheet: Sheet) -> EndReply
     }
 }
 
-// Adds the outline of a walk to the sheet, or refuses with 26.
-fn add_to_sheet(w: Walk, s: Sheet) -> EndReply
+// Adds the ring of a walk to the sheet, by the walk's kind, or refuses with 26.
+fn add_to_sheet(w: Walk, ring: Totals, s: Sheet) -> EndReply
     requires { ⌜ impossibleWalk w ≡ false ⌝ }
     requires { ⌜ impossibleSheet s ≡ false ⌝ }
     requires { ⌜ w .is_open ≡ true ⌝ }
     requires { ⌜ 3 ≤ w .count ⌝ }
+    requires { ⌜ zeroArea (closedTotals w) ≡ false ⌝ }
     requires { ⌜ s .count < 64 ⌝ }
+    requires { ⌜ ring ≡ closedTotals w ⌝ }
     ensures { λ r. ⌜ endReading r ≡ endCall w s ⌝ }
 {
-    let added = closed_totals(w);
+    let kind = w.kind;
+    let added = turn(kind, ring);
     let earlier = s.totals;
     let sums = add(earlier, added);
     if outside_limits(sums) {
@@ -137,8 +186,12 @@ pub fn end(w: Walk, s: Sheet) -> EndReply
     if w.count < 3 {
         return refused_end(EndAnswer::TooFewPoints, w, s);
     }
+    let ring = closed_totals(w);
+    if ring.a2 == 0 {
+        return refused_end(EndAnswer::ZeroArea, w, s);
+    }
     if 64 <= s.count {
         return refused_end(EndAnswer::SheetFull, w, s);
     }
-    add_to_sheet(w, s)
+    add_to_sheet(w, ring, s)
 }

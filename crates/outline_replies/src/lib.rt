@@ -50,6 +50,7 @@ pub fn totals_of_end(answer: EndAnswer) -> Totals
         EndAnswer::Impossible => no_totals(),
         EndAnswer::NotOpen => no_totals(),
         EndAnswer::TooFewPoints => no_totals(),
+        EndAnswer::ZeroArea => no_totals(),
         EndAnswer::SheetFull => no_totals(),
         EndAnswer::SheetExceeded => no_totals(),
     }

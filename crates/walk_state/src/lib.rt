@@ -6,6 +6,7 @@ ghost use Rattle.outline.specs.WalkCalls.{openWalk, closed, newSheet, beginCall
 ghost use Rattle.outline_answers.specs.WalkAnswers.{beginReading, abandonReading};
 pub use handed_in::impossible_sheet;
 pub use handed_in::impossible_walk;
+use outline::Kind;
 use outline::ORIGIN;
 use outline::Position;
 use outline::Sheet;
@@ -19,6 +20,7 @@ use outline_answers::BeginReply;
 
 const CLOSED: Walk = Walk {
     is_open: false,
+    kind: Kind::Island,
     count: 0,
     first: ORIGIN,
     last: ORIGIN,
@@ -26,11 +28,12 @@ const CLOSED: Walk = Walk {
 };
 
 // Every open walk is made here.
-pub fn open_walk(count: u32, first: Position, last: Position, totals: Totals) -> Walk
-    ensures { λ r. ⌜ r ≡ openWalk count first last totals ⌝ }
+pub fn open_walk(kind: Kind, count: u32, first: Position, last: Position, totals: Totals) -> Walk
+    ensures { λ r. ⌜ r ≡ openWalk kind count first last totals ⌝ }
 {
     Walk {
         is_open: true,
+        kind,
         count,
         first,
         last,
@@ -54,8 +57,8 @@ pub fn new_sheet() -> Sheet
     }
 }
 
-pub fn begin(w: Walk) -> BeginReply
-    ensures { λ r. ⌜ beginReading r ≡ beginCall w ⌝ }
+pub fn begin(w: Walk, kind: Kind) -> BeginReply
+    ensures { λ r. ⌜ beginReading r ≡ beginCall w kind ⌝ }
 {
     if impossible_walk(w) {
         return BeginReply {
@@ -69,7 +72,7 @@ pub fn begin(w: Walk) -> BeginReply
             walk: w,
         };
     }
-    let opened = open_walk(0, ORIGIN, ORIGIN, ZEROS);
+    let opened = open_walk(kind, 0, ORIGIN, ORIGIN, ZEROS);
     BeginReply {
         answer: BeginAnswer::Accepted,
         walk: opened,

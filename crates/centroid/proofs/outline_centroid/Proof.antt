@@ -17,9 +17,9 @@ use Rattle.outline.specs.private.Fit.{Fit}
 use Rattle.outline.specs.MapCall.{totalLimit, totalLimits}
 use Rattle.outline.proofs.Limits.{exceed-fit}
 use Rattle.limits.proofs.Fields.{TotalsFit}
+use Rattle.limits.proofs.ZeroTest.{zero-size, nonzero-size}
 use Rattle.centroid.specs.Centroid.{outlineCentroidCall, signedBy}
 use Rattle.centroid.specs.private.Quotient.{QuotientBounds}
-use Rattle.centroid.proofs.CodeTests.{zero-size, nonzero-size}
 use Rattle.centroid.proofs.Limits.{bounds-above, bounds-below, same-bounds, same-centre}
 use Rattle.centroid.proofs.outline_centroid.Statement.{statement}
 use Rattle.centroid.proofs.outline_centroid.Tie as tie
