@@ -42,6 +42,10 @@ pub front-none : (rule : List ℕ → Form) (bs : List ℕ) (at : ℕ) → ((t :
 unfolding lineFront formed
 front-none rule bs at h = rw (h (take (lineLength bs) bs))
 
+-- So does one that refuses the empty line and every line with that first byte.
+pub front-refused : (rule : List ℕ → Form) (b : ℕ) (bs : List ℕ) (at : ℕ) → rule [] ≡ other → ((t : List ℕ) → rule (b ∷ t) ≡ other) → lineFront rule (b ∷ bs) at ≡ noForm
+front-refused rule b bs at e h = front-same rule (λ t. other) b bs at e h ∙ front-none (λ t. other) (b ∷ bs) at (λ t. refl)
+
 -- Bytes without a newline stand in the line.
 pub front-skip : (rule : List ℕ → Form) (ps bs : List ℕ) (at : ℕ) → Plain ps → lineFront rule (ps ++ bs) at ≡ lineFront (λ t. rule (ps ++ t)) bs (at + length ps)
 unfolding Plain
@@ -70,7 +74,7 @@ front-offset rule bs at k =
     go (rule (take (lineLength bs) bs)) (at + lineLength bs + 1) ∙ ap (formed (rule (take (lineLength bs) bs))) e
   where
     go : (f : Form) (n : ℕ) → formed (formed f n .form) (k + formed f n .next) ≡ formed f (k + n)
-    go begin n = refl
+    go (begin kind) n = refl
     go end n = refl
     go abandon n = refl
     go (point x y) n = refl
@@ -82,7 +86,7 @@ unfolding lineFront formed
 front-next rule bs at = omega (arith, line-within bs, go (rule (take (lineLength bs) bs)) (at + lineLength bs + 1))
   where
     go : (f : Form) (n : ℕ) → formed f n .next ≤ n
-    go begin n = omega arith
+    go (begin kind) n = omega arith
     go end n = omega arith
     go abandon n = omega arith
     go (point x y) n = omega arith

@@ -8,13 +8,13 @@ use lib.Dec.{eqb}
 use lib.ListN.{length, drop}
 use borrow.Author.Tests.{eqb-true, eqb-false, ne-eqb}
 use Rattle.text_numbers.specs.Numbers.{Number, number, malformed, numberOf}
-use Rattle.parsing.specs.Grammar.{fields, withFirst, Form, other, letterOf, pointOf, formOfFields, formOf}
+use Rattle.parsing.specs.Grammar.{fields, withFirst, Form, other, isByte, letterOf, pointOf, formOfFields, formOf}
 use Rattle.parsing.specs.ReadForm.{noForm, formed}
 use Rattle.text_numbers.specs.LeadingNumber.{sized}
 use Rattle.parsing.specs.private.Parts.{numberToken, numberAt, afterX, secondForm, lineFront}
 use Rattle.parsing.proofs.Tokens.{plain-token, token-split, token-size, token-over}
 use Rattle.parsing.proofs.PointLines.{second-byte, x-alone, x-over, x-tab, rest-no-tab, rest-none, y-alone, y-over, malformed-point, point-malformed}
-use Rattle.parsing.proofs.FrontLaws.{formed-other, front-end, front-step, front-same, front-none, front-skip}
+use Rattle.parsing.proofs.FrontLaws.{formed-other, front-end, front-step, front-same, front-none, front-refused, front-skip}
 
 -- ---- the number at a place
 
@@ -122,32 +122,33 @@ module _ (bs : List ℕ) (at : ℕ) {e : ℕ} {r : List ℕ} (h : drop (length (
 
 -- What follows x is no tab; what follows P is no tab.
 pub x-no-tab : (n : Number) (e : ℕ) (bs : List ℕ) (at : ℕ) → (e ≡ 9 → ⊥) → lineFront (secondForm n) (e ∷ bs) at ≡ noForm
-x-no-tab n e bs at h = front-same (secondForm n) (λ t. other) e bs at (rest-none n) (λ t. rest-no-tab n e t h) ∙ front-none (λ t. other) (e ∷ bs) at (λ t. refl)
+x-no-tab n e bs at h = front-refused (secondForm n) e bs at (rest-none n) (λ t. rest-no-tab n e t h)
 
 pub p-no-tab : (e : ℕ) (bs : List ℕ) (at : ℕ) → (e ≡ 9 → ⊥) → lineFront (λ t. formOf (80 ∷ t)) (e ∷ bs) at ≡ noForm
-unfolding formOf formOfFields fields withFirst letterOf
-p-no-tab e bs at h = front-same (λ t. formOf (80 ∷ t)) (λ t. other) e bs at refl (λ t. second-byte 80 e t (λ j k. h k)) ∙ front-none (λ t. other) (e ∷ bs) at (λ t. refl)
+unfolding formOf formOfFields fields withFirst letterOf isByte
+p-no-tab e bs at h = front-refused (λ t. formOf (80 ∷ t)) e bs at refl (λ t. second-byte 80 e t (λ k. absurd (h k)))
 
 pub p-line : (bs : List ℕ) (at : ℕ) → lineFront formOf (80 ∷ bs) at ≡ lineFront (λ t. formOf (80 ∷ t)) bs (at + 1)
 p-line bs at = front-step formOf 80 bs at (λ k. omega arith)
 
 -- An empty line.
 empty-line : (bs : List ℕ) (at : ℕ) → lineFront formOf (10 ∷ bs) at ≡ noForm
-unfolding formOf formOfFields fields letterOf
+unfolding formOf formOfFields fields letterOf isByte
 empty-line bs at = front-end formOf bs at ∙ formed-other (at + 1)
 
-pub long-line : (b c : ℕ) (bs : List ℕ) (at : ℕ) → (b ≡ 80 → ⊥) → (c ≡ 10 → ⊥) → lineFront formOf (b ∷ c ∷ bs) at ≡ noForm
+-- A line of two bytes or more, and not P or B with a tab behind it.
+pub long-line : (b c : ℕ) (bs : List ℕ) (at : ℕ) → (c ≡ 9 → (b ≡ 80 → ⊥) × (b ≡ 66 → ⊥)) → (c ≡ 10 → ⊥) → lineFront formOf (b ∷ c ∷ bs) at ≡ noForm
 long-line b c bs at h k = go (eqb b 10) refl
   where
     go : (t : Bool) → eqb b 10 ≡ t → lineFront formOf (b ∷ c ∷ bs) at ≡ noForm
     go true e = rw (eqb-true b 10 e) (empty-line (c ∷ bs) at)
     go false e =
         front-step formOf b (c ∷ bs) at (eqb-false b 10 e)
-        ∙ (front-step (λ t. formOf (b ∷ t)) c bs (at + 1) k ∙ front-none (λ t. formOf (b ∷ c ∷ t)) bs (at + 1 + 1) (λ t. second-byte b c t (λ j i. h j)))
+        ∙ (front-step (λ t. formOf (b ∷ t)) c bs (at + 1) k ∙ front-none (λ t. formOf (b ∷ c ∷ t)) bs (at + 1 + 1) (λ t. second-byte b c t h))
 
 -- A line of one byte.
 pub one-byte-line : (b : ℕ) (bs : List ℕ) (at : ℕ) → lineFront formOf (b ∷ 10 ∷ bs) at ≡ formed (formOf (b ∷ [])) (at + 2)
-unfolding formOf formOfFields fields withFirst letterOf
+unfolding formOf formOfFields fields withFirst letterOf isByte
 one-byte-line b bs at = go (eqb b 10) refl
   where
     go : (t : Bool) → eqb b 10 ≡ t → lineFront formOf (b ∷ 10 ∷ bs) at ≡ formed (formOf (b ∷ [])) (at + 2)
@@ -157,7 +158,7 @@ one-byte-line b bs at = go (eqb b 10) refl
         front-step formOf b (10 ∷ bs) at (eqb-false b 10 e) ∙ (front-end (λ t. formOf (b ∷ t)) bs (at + 1) ∙ ap (formed (formOf (b ∷ []))) two)
 
 pub no-letter : (b : ℕ) → (b ≡ 66 → ⊥) → (b ≡ 69 → ⊥) → (b ≡ 65 → ⊥) → formOf (b ∷ []) ≡ other
-unfolding formOf formOfFields fields withFirst letterOf
+unfolding formOf formOfFields fields withFirst letterOf isByte
 no-letter b h k m = go (eqb b 9) refl
   where
     go : (t : Bool) → eqb b 9 ≡ t → formOfFields (fields (b ∷ [])) ≡ other

@@ -2,6 +2,7 @@ mod Tokens
 mod FrontLaws
 mod PointLines
 mod Fronts
+mod HoleLines
 mod NumberReads
 mod Places
 mod ReadingLaw

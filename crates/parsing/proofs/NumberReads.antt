@@ -42,15 +42,19 @@ number-reads b bs = go (eqb b 45) refl
 
 -- ---- places
 
-four-at : (s : List ℕ) (i : ℕ) → i + 4 ≤ length s → take 4 (drop i s) ≡ getD s i 0 ∷ getD s (i + 1) 0 ∷ getD s (i + 2) 0 ∷ getD s (i + 3) 0 ∷ []
-four-at s i h =
+pub four-bytes : (s : List ℕ) (i : ℕ) → i + 4 ≤ length s → drop i s ≡ getD s i 0 ∷ getD s (i + 1) 0 ∷ getD s (i + 2) 0 ∷ getD s (i + 3) 0 ∷ drop (i + 4) s
+four-bytes s i h =
     let a : drop i s ≡ getD s i 0 ∷ drop (i + 1) s = byte-at s i (omega arith) in
     let b : drop (i + 1) s ≡ getD s (i + 1) 0 ∷ drop (i + 1 + 1) s = byte-at s (i + 1) (omega arith) in
     let c : drop (i + 2) s ≡ getD s (i + 2) 0 ∷ drop (i + 2 + 1) s = byte-at s (i + 2) (omega arith) in
     let d : drop (i + 3) s ≡ getD s (i + 3) 0 ∷ drop (i + 3 + 1) s = byte-at s (i + 3) (omega arith) in
     let e : i + 1 + 1 ≡ i + 2 = omega arith in
     let f : i + 2 + 1 ≡ i + 3 = omega arith in
-    rw (a, b, e, c, f, d)
+    let g : i + 3 + 1 ≡ i + 4 = omega arith in
+    rw (a, b, e, c, f, d, g)
+
+four-at : (s : List ℕ) (i : ℕ) → i + 4 ≤ length s → take 4 (drop i s) ≡ getD s i 0 ∷ getD s (i + 1) 0 ∷ getD s (i + 2) 0 ∷ getD s (i + 3) 0 ∷ []
+four-at s i h = ap (take 4) (four-bytes s i h)
 
 -- The four bytes behind the minus, if there is one.
 behind-minus : (s : List ℕ) (at : ℕ) → at + 5 ≤ length s → (m : Bool) → let i = at + boolByte m in take 4 (cond m (drop (at + 1) s) (getD s at 0 ∷ drop (at + 1) s)) ≡ getD s i 0 ∷ getD s (i + 1) 0 ∷ getD s (i + 2) 0 ∷ getD s (i + 3) 0 ∷ []

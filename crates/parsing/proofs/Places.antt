@@ -1,4 +1,4 @@
--- The line at a place by the bytes that the code reads there: one law for each return of `second`, `point_form` and `whole_form`.
+-- The line at a place by the bytes that the code reads there: one law for each return of `second`, `point_form`, `hole_form` and `whole_form`.
 use Prim.Native.Nat.{ℕ, _+_, _<_, _≤_}
 use mathlib.Core.Path.{_≡_, refl, sym, ap, _∙_}
 use mathlib.Core.List.{List, [], _∷_}
@@ -6,14 +6,17 @@ use native.Mathlib.Omega.{arith}
 use lib.IntN.{ℤ}
 use lib.ListN.{length, drop, getD}
 use lib.Seq.{drop-drop}
+use Rattle.outline.specs.declared.Kind.the-variants.{Hole}
 use Rattle.text_numbers.specs.Numbers.{Number, number, malformed, numberOf}
-use Rattle.parsing.specs.Grammar.{Form, point, pointOf, formOf}
+use Rattle.parsing.specs.Grammar.{Form, begin, point, pointOf, formOf}
 use Rattle.parsing.specs.ReadForm.{Front, noForm, formed}
 use Rattle.parsing.specs.private.Parts.{numberToken, numberAt, secondForm, lineFront}
 use Rattle.text_numbers.specs.declared.NumberAt.{NumberAt}
 use Rattle.parsing.proofs.Tokens.{token-size}
 use Rattle.newlines.proofs.Newlines.{byte-at}
 use Rattle.parsing.proofs.Fronts.{number-none, Found, number-some, number-size, y-ends, y-goes-on, y-malformed, past-x, x-malformed, x-no-tab, p-no-tab, p-line, long-line, one-byte-line}
+use Rattle.parsing.proofs.HoleLines.{no-h-line, long-hole-line, hole-line}
+use Rattle.parsing.proofs.NumberReads.{four-bytes}
 
 -- Where the number behind the tab at `at` ends.
 abbrev numberEnd : List ℕ → ℕ → ℕ
@@ -89,13 +92,33 @@ module _ {s : List ℕ} {at : ℕ} {r : NumberAt} (t : TabNumber s at r) where
       ∙ (ap (λ (q : Number). lineFront (secondForm q) (drop (numberEnd s at) s) (numberEnd s at)) (token-value h)
       ∙ ap (λ (i : ℕ). lineFront (secondForm (number (r .value))) (drop (at + 1 + i) s) (at + 1 + i)) (token-length h)))))
 
--- Two bytes.
-module _ (s : List ℕ) (at : ℕ) (room : at + 2 ≤ length s) where
-  two-bytes : (b c : ℕ) → getD s at 0 ≡ b → getD s (at + 1) 0 ≡ c → lineFront formOf (drop at s) at ≡ lineFront formOf (b ∷ c ∷ drop (at + 1 + 1) s) at
-  two-bytes b c e d = begins s at formOf b (omega arith) e ∙ ap (λ (l : List ℕ). lineFront formOf (b ∷ l) at) (byte-at s (at + 1) (omega arith) ∙ ap (λ (q : ℕ). q ∷ drop (at + 1 + 1) s) d)
+-- The first four bytes.
+module _ (s : List ℕ) (at : ℕ) (room : at + 4 ≤ length s) where
+  four-first : (b c d e : ℕ) → getD s at 0 ≡ b → getD s (at + 1) 0 ≡ c → getD s (at + 2) 0 ≡ d → getD s (at + 3) 0 ≡ e → lineFront formOf (drop at s) at ≡ lineFront formOf (b ∷ c ∷ d ∷ e ∷ drop (at + 4) s) at
+  four-first b c d e h i j k = rw (four-bytes s at room, h, i, j, k)
 
-  pub too-long : (getD s at 0 ≡ 80 → ⊥) → (getD s (at + 1) 0 ≡ 10 → ⊥) → noForm ≡ lineFront formOf (drop at s) at
-  too-long h k = sym (two-bytes (getD s at 0) (getD s (at + 1) 0) refl refl ∙ long-line (getD s at 0) (getD s (at + 1) 0) (drop (at + 1 + 1) s) at h k)
+  pub too-long : (getD s (at + 1) 0 ≡ 9 → (getD s at 0 ≡ 80 → ⊥) × (getD s at 0 ≡ 66 → ⊥)) → (getD s (at + 1) 0 ≡ 10 → ⊥) → noForm ≡ lineFront formOf (drop at s) at
+  too-long h k =
+      let b = getD s at 0 in
+      let c = getD s (at + 1) 0 in
+      let d = getD s (at + 2) 0 in
+      let e = getD s (at + 3) 0 in
+      sym (four-first b c d e refl refl refl refl ∙ long-line b c (d ∷ e ∷ drop (at + 4) s) at h k)
 
   pub one-byte : getD s (at + 1) 0 ≡ 10 → formed (formOf (getD s at 0 ∷ [])) (at + 2) ≡ lineFront formOf (drop at s) at
-  one-byte newline = sym (two-bytes (getD s at 0) 10 refl newline ∙ one-byte-line (getD s at 0) (drop (at + 1 + 1) s) at)
+  one-byte newline =
+      let b = getD s at 0 in
+      let d = getD s (at + 2) 0 in
+      let e = getD s (at + 3) 0 in
+      sym (four-first b 10 d e refl newline refl refl ∙ one-byte-line b (d ∷ e ∷ drop (at + 4) s) at)
+
+  module _ (b : getD s at 0 ≡ 66) (tab : getD s (at + 1) 0 ≡ 9) where
+    pub hole-no-h : (getD s (at + 2) 0 ≡ 72 → ⊥) → noForm ≡ lineFront formOf (drop at s) at
+    hole-no-h k = let d = getD s (at + 2) 0 in let e = getD s (at + 3) 0 in sym (four-first 66 9 d e b tab refl refl ∙ no-h-line d (e ∷ drop (at + 4) s) at k)
+
+    pub hole-goes-on : getD s (at + 2) 0 ≡ 72 → (getD s (at + 3) 0 ≡ 10 → ⊥) → noForm ≡ lineFront formOf (drop at s) at
+    hole-goes-on h k = let e = getD s (at + 3) 0 in sym (four-first 66 9 72 e b tab h refl ∙ long-hole-line e (drop (at + 4) s) at k)
+
+    pub hole-ends : getD s (at + 2) 0 ≡ 72 → getD s (at + 3) 0 ≡ 10 → _≡_ {A = Front} (record { form = begin Hole; next = at + 4 }) (lineFront formOf (drop at s) at)
+    unfolding formed
+    hole-ends h newline = sym (four-first 66 9 72 10 b tab h newline ∙ hole-line (drop (at + 4) s) at)

@@ -8,7 +8,7 @@ use lib.Dec.{ltb, eqb}
 use lib.ListN.{length, length-append}
 use borrow.Author.Tests.{eqb-true, eqb-false, ne-eqb, ltb-true}
 use Rattle.text_numbers.specs.Numbers.{Number, number, malformed, numberOf}
-use Rattle.parsing.specs.Grammar.{fields, withFirst, other, letterOf, pointOf, isP, formOfFields, formOf}
+use Rattle.parsing.specs.Grammar.{fields, withFirst, other, isByte, letterOf, pointOf, formOfFields, formOf}
 use Rattle.parsing.specs.private.Parts.{afterX, secondForm}
 use Rattle.text_numbers.proofs.LeadingDigits.{cond-same, number-long}
 use Rattle.parsing.proofs.Tokens.{Plain}
@@ -78,26 +78,26 @@ pub no-form : (bs : List ℕ) → formOfFields (fields bs) ≡ other → formOf 
 unfolding formOf
 no-form bs h = rw h (cond-same (ltb 32 (length bs)) other)
 
--- A first field of two bytes or more, or of one that is not P, has a letter's form at most; with more fields none.
-not-p : (f g : List ℕ) (fs : List (List ℕ)) → isP f ≡ false → formOfFields (f ∷ g ∷ fs) ≡ other
+-- A first field of two bytes or more, or of one that is neither P nor B, has a letter's form at most; with more fields none.
+not-first : (f g : List ℕ) (fs : List (List ℕ)) → isByte 80 f ≡ false → isByte 66 f ≡ false → formOfFields (f ∷ g ∷ fs) ≡ other
 unfolding formOfFields
-not-p f x [] h = refl
-not-p f x (y ∷ []) h = rw h
-not-p f x (y ∷ z ∷ fs) h = refl
+not-first f g [] h k = rw k
+not-first f g (y ∷ []) h k = rw h
+not-first f g (y ∷ z ∷ fs) h k = refl
 
 long-field : (a b : ℕ) (f : List ℕ) (fs : List (List ℕ)) → formOfFields ((a ∷ b ∷ f) ∷ fs) ≡ other
-unfolding formOfFields letterOf isP
+unfolding formOfFields letterOf isByte
 long-field a b f [] = refl
-long-field a b f (g ∷ fs) = not-p (a ∷ b ∷ f) g fs refl
+long-field a b f (g ∷ fs) = not-first (a ∷ b ∷ f) g fs refl refl
 
--- Two bytes, the first no P: none of the forms. After P comes a tab.
-pub second-byte : (a b : ℕ) (bs : List ℕ) → (a ≡ 80 → b ≡ 9 → ⊥) → formOf (a ∷ b ∷ bs) ≡ other
-unfolding isP
+-- Two bytes or more, and not P or B with a tab behind it: none of the forms.
+pub second-byte : (a b : ℕ) (bs : List ℕ) → (b ≡ 9 → (a ≡ 80 → ⊥) × (a ≡ 66 → ⊥)) → formOf (a ∷ b ∷ bs) ≡ other
+unfolding isByte
 second-byte a b bs h = no-form (a ∷ b ∷ bs) (go (separated bs) (eqb a 9) refl (eqb b 9) refl)
   where
     go : (p : Separated bs) (t : Bool) → eqb a 9 ≡ t → (u : Bool) → eqb b 9 ≡ u → formOfFields (fields (a ∷ b ∷ bs)) ≡ other
-    go p true e u d = rw (eqb-true a 9 e, fields-tab (b ∷ bs), separated (b ∷ bs) .fields-are) (not-p [] (separated (b ∷ bs) .first) (separated (b ∷ bs) .more) refl)
-    go p false e true d = rw (eqb-true b 9 d, fields-byte a (9 ∷ bs) [] (fields bs) (eqb-false a 9 e) (fields-tab bs), p .fields-are) (not-p (a ∷ []) (p .first) (p .more) (ne-eqb a 80 (λ k. h k (eqb-true b 9 d))))
+    go p true e u d = rw (eqb-true a 9 e, fields-tab (b ∷ bs), separated (b ∷ bs) .fields-are) (not-first [] (separated (b ∷ bs) .first) (separated (b ∷ bs) .more) refl refl)
+    go p false e true d = rw (eqb-true b 9 d, fields-byte a (9 ∷ bs) [] (fields bs) (eqb-false a 9 e) (fields-tab bs), p .fields-are) (not-first (a ∷ []) (p .first) (p .more) (ne-eqb a 80 (h (eqb-true b 9 d) .0)) (ne-eqb a 66 (h (eqb-true b 9 d) .1)))
     go p false e false d = rw (fields-byte a (b ∷ bs) (b ∷ p .first) (p .more) (eqb-false a 9 e) (fields-byte b bs (p .first) (p .more) (eqb-false b 9 d) (p .fields-are))) (long-field a b (p .first) (p .more))
 
 -- ---- x
@@ -108,12 +108,12 @@ module _ (ps : List ℕ) (plain : Plain ps) where
 
   -- The line ends with x.
   pub x-alone : formOf (80 ∷ 9 ∷ ps ++ []) ≡ other
-  unfolding formOfFields
+  unfolding formOfFields isByte
   x-alone = no-form (80 ∷ 9 ∷ ps ++ []) (rw (point-fields [] [] [] fields-none))
 
   -- x goes on with a byte that makes it malformed.
   pub x-over : (e : ℕ) (bs : List ℕ) → (e ≡ 9 → ⊥) → ((u : List ℕ) → numberOf (ps ++ e ∷ u) ≡ malformed) → formOf (80 ∷ 9 ∷ ps ++ e ∷ bs) ≡ other
-  unfolding formOfFields isP
+  unfolding formOfFields isByte
   x-over e bs h over = no-form (80 ∷ 9 ∷ ps ++ e ∷ bs) (rw (point-fields (e ∷ bs) (e ∷ separated bs .first) (separated bs .more) (fields-byte e bs (separated bs .first) (separated bs .more) h (separated bs .fields-are))) (go (separated bs .more)))
     where
       go : (fs : List (List ℕ)) → formOfFields ((80 ∷ []) ∷ (ps ++ e ∷ separated bs .first) ∷ fs) ≡ other
@@ -123,7 +123,7 @@ module _ (ps : List ℕ) (plain : Plain ps) where
 
   -- x ends with a tab: the form is that of the rest.
   pub x-tab : (bs : List ℕ) → length ps ≤ 5 → formOf (80 ∷ 9 ∷ ps ++ 9 ∷ bs) ≡ secondForm (numberOf ps) (9 ∷ bs)
-  unfolding formOf formOfFields isP secondForm afterX
+  unfolding formOf formOfFields isByte secondForm afterX
   x-tab bs size = rw (point-fields (9 ∷ bs) [] (fields bs) (fields-tab bs), append-nil, fields-tab bs) (go (fields bs) refl (ltb 32 (length (80 ∷ 9 ∷ ps ++ 9 ∷ bs))) refl)
     where
       go : (fs : List (List ℕ)) → fields bs ≡ fs → (t : Bool) → ltb 32 (length (80 ∷ 9 ∷ ps ++ 9 ∷ bs)) ≡ t → cond t other (formOfFields ((80 ∷ []) ∷ ps ∷ fs)) ≡ afterX (numberOf ps) ([] ∷ fs)

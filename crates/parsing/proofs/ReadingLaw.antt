@@ -7,7 +7,7 @@ use Rattle.parsing.specs.declared.LineForm.{LineForm}
 use Rattle.parsing.specs.declared.LineForm.the-variants.{Begin, End, Abandon, Point, Other}
 
 answer : Form → ℕ → LineForm
-answer begin next = Begin next
+answer (begin kind) next = Begin kind next
 answer end next = End next
 answer abandon next = Abandon next
 answer (point x y) next = Point x y next
@@ -15,7 +15,7 @@ answer other next = Other
 
 answer-of-reading : (p : LineForm) → answer (reading p .form) (reading p .next) ≡ p
 unfolding answer
-answer-of-reading (Begin n) = refl
+answer-of-reading (Begin kind n) = refl
 answer-of-reading (End n) = refl
 answer-of-reading (Abandon n) = refl
 answer-of-reading (Point x y n) = refl

@@ -8,7 +8,7 @@ use lib.Dec.{leb, ltb}
 use lib.ListN.{length, take, drop, length-drop, length-append, drop-of-length-le, replicate, getD-replicate}
 use lib.Seq.{take-all, take-length, drop-cons}
 use borrow.Author.Tests.{leb-true, leb-false, ltb-true, ltb-false}
-use Rattle.parsing.specs.Grammar.{fields, letterOf, formOfFields, formOf}
+use Rattle.parsing.specs.Grammar.{fields, isByte, letterOf, formOfFields, formOf}
 use Rattle.newlines.specs.LineLength.{lineLength}
 use Rattle.parsing.specs.ReadForm.{Front, formed, formAt}
 use Rattle.parsing.specs.private.Parts.{lineFront, copiedOnto}
@@ -40,7 +40,7 @@ copy-front bs few = rw behind (front-closed formOf bs (drop (suc (length bs)) ne
 
 -- A line of no bytes has no form, and another begins before the end n.
 few-next : (bs : List ℕ) (at n : ℕ) → length bs ≡ n - at → at < 2 ^ 64 → n < 2 ^ 63 → at - 0 + lineFront formOf bs 0 .next < 2 ^ 64
-unfolding lineFront formed lineLength formOf formOfFields fields letterOf
+unfolding lineFront formed lineLength formOf formOfFields fields letterOf isByte
 few-next [] at n e h k = omega arith
 few-next (b ∷ bs) at n e h k = omega (arith, front-next formOf (b ∷ bs) 0)
 

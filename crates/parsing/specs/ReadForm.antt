@@ -16,7 +16,7 @@ abbrev pub noForm : Front
 noForm = record { form = other; next = 0 }
 
 unfoldable pub formed : Form → ℕ → Front
-formed begin next = record { form = begin; next = next }
+formed (begin kind) next = record { form = begin kind; next = next }
 formed end next = record { form = end; next = next }
 formed abandon next = record { form = abandon; next = next }
 formed (point x y) next = record { form = point x y; next = next }
@@ -27,7 +27,7 @@ unfoldable pub formAt : List ℕ → ℕ → Front
 formAt s at = let bs = drop at s in formed (formOf (take (lineLength bs) bs)) (at + lineLength bs + 1)
 
 abbrev pub reading : LineForm → Front
-reading (Begin next) = record { form = begin; next = next }
+reading (Begin kind next) = record { form = begin kind; next = next }
 reading (End next) = record { form = end; next = next }
 reading (Abandon next) = record { form = abandon; next = next }
 reading (Point x y next) = record { form = point x y; next = next }

@@ -2,12 +2,13 @@
 ghost use mathlib.Core.Path.{_≡_};
 ghost use mathlib.Core.List.{[], _∷_};
 ghost use Prim.Native.Nat.{_+_, _≤_};
-ghost use lib.ListN.{length, drop};
+ghost use lib.ListN.{length, drop, getD};
 ghost use Rattle.text_numbers.specs.Numbers.{number};
 ghost use Rattle.parsing.specs.Grammar.{formOf};
 ghost use Rattle.parsing.specs.ReadForm.{formed, reading};
 ghost use Rattle.parsing.specs.private.Parts.{numberAt, secondForm, lineFront};
 use crate::LineForm;
+use outline::Kind;
 use text_numbers::NumberAt;
 use text_numbers::leading_number;
 
@@ -64,7 +65,7 @@ fn letter_form(b: u8, next: usize) -> LineForm
     ensures { λ r. ⌜ reading r ≡ formed (formOf (b ∷ [])) next ⌝ }
 {
     if b == 66 {
-        return LineForm::Begin(next);
+        return LineForm::Begin(Kind::Island, next);
     }
     if b == 69 {
         return LineForm::End(next);
@@ -73,6 +74,28 @@ fn letter_form(b: u8, next: usize) -> LineForm
         return LineForm::Abandon(next);
     }
     LineForm::Other
+}
+
+// A line of two bytes or more that is no point's: B, a tab, H and a newline.
+fn hole_form(s: &[u8], at: usize) -> LineForm
+    requires { ⌜ at + 4 ≤ length (now s) ⌝ }
+    requires { ⌜ (getD (now s) at 0 ≡ 80 → ⊥) ⌝ }
+    requires { ⌜ (getD (now s) (at + 1) 0 ≡ 10 → ⊥) ⌝ }
+    ensures { λ r. ⌜ reading r ≡ lineFront formOf (drop at (now (s .entry))) at ⌝ }
+{
+    if s[at] != 66 {
+        return LineForm::Other;
+    }
+    if s[at + 1] != 9 {
+        return LineForm::Other;
+    }
+    if s[at + 2] != 72 {
+        return LineForm::Other;
+    }
+    if s[at + 3] != 10 {
+        return LineForm::Other;
+    }
+    LineForm::Begin(Kind::Hole, at + 4)
 }
 
 // A line of the form at `at`, where as many bytes are left as the longest takes with its newline.
@@ -84,8 +107,8 @@ pub(crate) fn whole_form(s: &[u8], at: usize) -> LineForm
     if b == 80 {
         return point_form(s, at + 1);
     }
-    if s[at + 1] != 10 {
-        return LineForm::Other;
+    if s[at + 1] == 10 {
+        return letter_form(b, at + 2);
     }
-    letter_form(b, at + 2)
+    hole_form(s, at)
 }

@@ -1,9 +1,10 @@
-// The form of the line at a place of a chunk: document 01, "The text program".
+// The form of the line at a place of a chunk: document 01, "The text program", and document 02, CR 3.
 mod form;
 mod short;
 
 ghost use mathlib.Core.Path.{_≡_};
 ghost use Rattle.parsing.specs.ReadForm.{formAt, reading};
+use outline::Kind;
 use short::chosen_form;
 use short::copy_few;
 use short::few_left;
@@ -12,7 +13,7 @@ use short::place_of;
 
 // The forms of a line, each with where the next line begins.
 pub enum LineForm {
-    Begin(usize),
+    Begin(Kind, usize),
     End(usize),
     Abandon(usize),
     Point(i32, i32, usize),

@@ -61,7 +61,7 @@ pub(crate) fn offset_by(form: LineForm, by: usize) -> LineForm
     ensures { λ r. ⌜ reading r ≡ formed (reading form .form) (by + reading form .next) ⌝ }
 {
     match form {
-        LineForm::Begin(next) => LineForm::Begin(by + next),
+        LineForm::Begin(kind, next) => LineForm::Begin(kind, by + next),
         LineForm::End(next) => LineForm::End(by + next),
         LineForm::Abandon(next) => LineForm::Abandon(by + next),
         LineForm::Point(x, y, next) => LineForm::Point(x, y, by + next),

@@ -1,6 +1,6 @@
 -- `letter_form` tells the letters apart: each return is what the form of a line of that byte computes to.
 use mathlib.Core.Path.{sym, ap, _∙_}
-use Rattle.parsing.specs.Grammar.{Form, fields, withFirst, letterOf, formOfFields, formOf}
+use Rattle.parsing.specs.Grammar.{Form, fields, withFirst, isByte, letterOf, formOfFields, formOf}
 use Rattle.parsing.specs.ReadForm.{formed}
 use Rattle.parsing.proofs.FrontLaws.{formed-other}
 use Rattle.parsing.proofs.Fronts.{no-letter}
@@ -8,15 +8,15 @@ use Rattle.parsing.proofs.form.letter_form.Statement.{statement}
 use Rattle.parsing.proofs.form.letter_form.Tie as tie
 
 returns : tie.Need-returns
-unfolding formed formOf formOfFields fields withFirst letterOf
+unfolding formed formOf formOfFields fields withFirst letterOf isByte
 returns c = rw (c .if1 .taken)
 
 returns-2 : tie.Need-returns-2
-unfolding formed formOf formOfFields fields withFirst letterOf
+unfolding formed formOf formOfFields fields withFirst letterOf isByte
 returns-2 c = rw (c .if2 .taken)
 
 returns-3 : tie.Need-returns-3
-unfolding formed formOf formOfFields fields withFirst letterOf
+unfolding formed formOf formOfFields fields withFirst letterOf isByte
 returns-3 c = rw (c .if3 .taken)
 
 returns-4 : tie.Need-returns-4

@@ -1,7 +1,7 @@
--- `whole_form` tells a point's line by its first byte, and hands it on, or a letter's by the newline behind it.
+-- `whole_form` tells a point's line by its first byte, a letter's by the newline behind it, and hands on what may be a hole's.
 use mathlib.Core.Path.{_∙_}
 use native.Mathlib.Omega.{arith}
-use Rattle.parsing.proofs.Places.{after-p, too-long, one-byte}
+use Rattle.parsing.proofs.Places.{after-p, one-byte}
 use borrow.Author.Needs.{needs}
 use Rattle.parsing.proofs.form.whole_form.Statement.{statement}
 use Rattle.parsing.proofs.form.whole_form.Tie as tie
@@ -24,17 +24,20 @@ add-if2 c = search needs
 shared-slice-read-if2 : tie.Need-shared-slice-read-if2
 shared-slice-read-if2 c = search needs
 
-returns-2 : tie.Need-returns-2
-returns-2 c = let s = c .before .before .before .before .before in too-long (s .args .s .now) (s .args .at) (omega arith) (c .before .before .if1 .left) (c .if2 .taken)
-
 add-letter-form : tie.Need-add-letter-form
 add-letter-form c = search needs
 
 letter-form-requires : tie.Need-letter-form-requires
 letter-form-requires c κs = search needs
 
+returns-2 : tie.Need-returns-2
+returns-2 c = let s = c .before .before .before .before .before .before in c .letter-form .ensures ∙ one-byte (s .args .s .now) (s .args .at) (omega arith) (c .before .if2 .taken)
+
+hole-form-requires : tie.Need-hole-form-requires
+hole-form-requires c κs = search needs
+
 returns-3 : tie.Need-returns-3
-returns-3 c = let s = c .before .before .before .before .before .before in c .letter-form .ensures ∙ one-byte (s .args .s .now) (s .args .at) (omega arith) (c .before .if2 .left)
+returns-3 c = search needs
 
 pub whole-form-spec : {M : Type 1} → statement M
 whole-form-spec =
@@ -46,7 +49,8 @@ whole-form-spec =
     returns
     add-if2
     shared-slice-read-if2
-    returns-2
     add-letter-form
     letter-form-requires
+    returns-2
+    hole-form-requires
     returns-3)

@@ -11,26 +11,26 @@ use Rattle.parsing.proofs.short.offset_by.Tie as tie
 enum-known-form : tie.Need-enum-known-form
 enum-known-form c = search needs
 
-add-t10 : tie.Need-add-t10
-add-t10 c = let h = rw (c .before .form .given .1) at (c .before .before .before .pre) in omega arith
+add-t11 : tie.Need-add-t11
+add-t11 c = let h = rw (c .before .form .given .1) at (c .before .before .before .pre) in omega arith
 
 enum-known-form-2 : tie.Need-enum-known-form-2
 enum-known-form-2 c = search needs
 
-add-t11 : tie.Need-add-t11
-add-t11 c = let h = rw (c .before .form2 .given .1) at (c .before .before .before .pre) in omega arith
+add-t12 : tie.Need-add-t12
+add-t12 c = let h = rw (c .before .form2 .given .1) at (c .before .before .before .pre) in omega arith
 
 enum-known-form-3 : tie.Need-enum-known-form-3
 enum-known-form-3 c = search needs
 
-add-t12 : tie.Need-add-t12
-add-t12 c = let h = rw (c .before .form3 .given .1) at (c .before .before .before .pre) in omega arith
+add-t13 : tie.Need-add-t13
+add-t13 c = let h = rw (c .before .form3 .given .1) at (c .before .before .before .pre) in omega arith
 
 enum-known-form-4 : tie.Need-enum-known-form-4
 enum-known-form-4 c = search needs
 
-add-t13 : tie.Need-add-t13
-add-t13 c = let h = rw (c .before .form4 .given .1) at (c .before .before .before .pre) in omega arith
+add-t14 : tie.Need-add-t14
+add-t14 c = let h = rw (c .before .form4 .given .1) at (c .before .before .before .pre) in omega arith
 
 enum-told : tie.Need-enum-told
 enum-told c = search needs
@@ -63,13 +63,13 @@ offset-by-spec =
     tie.close
     (tie.spec
     enum-known-form
-    add-t10
-    enum-known-form-2
     add-t11
-    enum-known-form-3
+    enum-known-form-2
     add-t12
-    enum-known-form-4
+    enum-known-form-3
     add-t13
+    enum-known-form-4
+    add-t14
     enum-told
     returns
     returns-2
