@@ -10,7 +10,7 @@ use Rattle.parsing.specs.ReadForm.{formed, formAt, reading}
 
 own-form : (f : Form) (next : ℕ) → formed f next .form ≡ f
 unfolding formed
-own-form begin next = refl
+own-form (begin kind) next = refl
 own-form end next = refl
 own-form abandon next = refl
 own-form (point x y) next = refl

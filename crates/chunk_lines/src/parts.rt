@@ -27,7 +27,7 @@ pub(crate) fn line_size(form: LineForm, s: &[u8], at: usize) -> usize
 {
     match form {
         LineForm::Point(_, _, next) => next - at,
-        LineForm::Begin(next) => next - at,
+        LineForm::Begin(_, next) => next - at,
         LineForm::Abandon(next) => next - at,
         LineForm::End(next) => next - at,
         LineForm::Other => newline(s, at) - at + 1,

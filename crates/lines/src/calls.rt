@@ -2,6 +2,7 @@
 ghost use mathlib.Core.Path.{_≡_};
 ghost use Rattle.outline.specs.WalkCalls.{beginCall, pointCall, abandonCall};
 ghost use Rattle.lines.specs.private.WalkAnswer.{outcome};
+use outline::Kind;
 use outline::Walk;
 
 // The walk after a call, and the call's number: 0 where it is accepted.
@@ -10,10 +11,10 @@ pub(crate) struct Answered {
     pub number: u64,
 }
 
-pub(crate) fn begin_walk(w: Walk) -> Answered
-    ensures { λ r. ⌜ outcome r ≡ beginCall w ⌝ }
+pub(crate) fn begin_walk(w: Walk, kind: Kind) -> Answered
+    ensures { λ r. ⌜ outcome r ≡ beginCall w kind ⌝ }
 {
-    let r = walk_state::begin(w);
+    let r = walk_state::begin(w, kind);
     let walk = r.walk;
     let a = r.answer;
     Answered {

@@ -88,7 +88,7 @@ pub fn carry_out(
 {
     match form {
         LineForm::Point(x, y, _) => tell(extend_walk(walk, x, y), sheet, line, out, at),
-        LineForm::Begin(_) => tell(begin_walk(walk), sheet, line, out, at),
+        LineForm::Begin(kind, _) => tell(begin_walk(walk, kind), sheet, line, out, at),
         LineForm::Abandon(_) => tell(abandon_walk(walk), sheet, line, out, at),
         LineForm::End(_) => end_walk(walk, sheet, line, out, at),
         LineForm::Other => {

@@ -10,12 +10,13 @@ use lib.ListN.{length, take, drop, replicate}
 use lib.Seq.{drop-length}
 use borrow.Author.Tests.{ne-eqb, lt-ltb}
 use Rattle.outline.specs.EdgeSums.{zeros, over, exceed}
+use Rattle.outline.specs.declared.Kind.the-variants.{Hole}
 use Rattle.outline.specs.ListCall.{outside}
 use Rattle.outline.specs.WalkCalls.{origin, openWalk, closed, newSheet, extended, impossibleWalk, impossibleSheet, beginCall, pointCall, endCall}
 use Rattle.text_program.specs.declared.State.{State}
 use Rattle.centroid.specs.Centroid.{outlineCentroidCall}
 use Rattle.text_numbers.specs.Numbers.{allDigits, valueFrom, leadingZero, isNatural, naturalOf, numberOf}
-use Rattle.parsing.specs.Grammar.{withFirst, fields, letterOf, pointOf, isP, formOfFields, formOf}
+use Rattle.parsing.specs.Grammar.{withFirst, fields, isByte, letterOf, pointOf, formOfFields, formOf}
 use Rattle.newlines.specs.LineLength.{lineLength}
 use Rattle.decimals.specs.Decimal.{digits, decimal, signed}
 use Rattle.printing.specs.Output.{totalsText, centreText, refusalLine, sheetLine}
@@ -28,12 +29,12 @@ use Rattle.text_program.proofs.Worked.{text}
 use Rattle.text_program.proofs.Progress.{first-step}
 use Rattle.text_program.proofs.Chunks.{chunks-so-far, chunks, chunks-within, finishing-run}
 
--- A line of 33 bytes, B, P 0 0 and E without a newline, in three pieces: the second begins with the first line's newline and stops in the middle of the third.
+-- A line of 33 bytes, B H, P 0 0 and E without a newline, in three pieces: the second begins with the first line's newline and stops in the middle of the third.
 abbrev firstPiece : List ℕ
 firstPiece = replicate 33 66
 
 abbrev secondPiece : List ℕ
-secondPiece = 10 ∷ 66 ∷ 10 ∷ 80 ∷ 9 ∷ 48 ∷ []
+secondPiece = 10 ∷ 66 ∷ 9 ∷ 72 ∷ 10 ∷ 80 ∷ 9 ∷ 48 ∷ []
 
 abbrev thirdPiece : List ℕ
 thirdPiece = 9 ∷ 48 ∷ 10 ∷ 69 ∷ []
@@ -43,7 +44,7 @@ input = firstPiece ++ secondPiece ++ thirdPiece
 
 -- All is read, and E waits in the buffer for what may follow it.
 abbrev waiting : Place
-waiting = record { state = record { lines = 3; bytes = 42; gone = 0; ended = false; written = false; walk = openWalk 1 origin origin zeros }; sheet = newSheet; buffer = 69 ∷ []; unread = [] }
+waiting = record { state = record { lines = 3; bytes = 44; gone = 0; ended = false; written = false; walk = openWalk Hole 1 origin origin zeros }; sheet = newSheet; buffer = 69 ∷ []; unread = [] }
 
 -- A call that is not told that the input has ended.
 not-ended : {unread : List ℕ} → false ≡ true → unread ≡ []
@@ -52,7 +53,7 @@ not-ended e = absurd (true≢false (sym e))
 -- The run to there, and on. The first line's bytes are taken, and only their number is kept; then there is no room, so nothing is done; then room for one line;
 -- then two lines print nothing, the second of them in two pieces.
 to-waiting : (p : Place) (out : List ℕ) → Run p (waiting .state) newSheet (69 ∷ []) [] out → Run p start newSheet [] input (text ("R 1 9" ∷ []) ++ out)
-unfolding over exceed outside extended impossibleWalk beginCall pointCall allDigits valueFrom leadingZero isNatural naturalOf numberOf withFirst fields letterOf pointOf isP formOfFields formOf lineLength digits decimal signed refusalLine carriedWalk carryOut lineStep step steps feedCall
+unfolding over exceed outside extended impossibleWalk beginCall pointCall allDigits valueFrom leadingZero isNatural naturalOf numberOf withFirst fields isByte letterOf pointOf formOfFields formOf lineLength digits decimal signed refusalLine carriedWalk carryOut lineStep step steps feedCall
 to-waiting p out run =
     reads firstPiece
     (feeds false 192 _ not-ended refl
@@ -69,11 +70,11 @@ stopped = chunks-so-far waiting input (text ("R 1 9" ∷ [])) (to-waiting waitin
 
 -- S is written.
 abbrev finished : Place
-finished = record { state = record { lines = 4; bytes = 43; gone = 0; ended = true; written = true; walk = waiting .state .walk }; sheet = newSheet; buffer = []; unread = [] }
+finished = record { state = record { lines = 4; bytes = 45; gone = 0; ended = true; written = true; walk = waiting .state .walk }; sheet = newSheet; buffer = []; unread = [] }
 
 -- The input has ended: E is refused, and the next call writes S.
 to-finished : Run finished (waiting .state) newSheet (69 ∷ []) [] (text ("R 4 24" ∷ "S 0 0 0 0 0 0 0 - -" ∷ []))
-unfolding over exceed outside impossibleWalk impossibleSheet endCall outlineCentroidCall withFirst fields letterOf formOfFields formOf lineLength digits decimal signed totalsText centreText refusalLine sheetLine carriedEnd carryOut lineStep step steps feedCall
+unfolding over exceed outside impossibleWalk impossibleSheet endCall outlineCentroidCall withFirst fields isByte letterOf formOfFields formOf lineLength digits decimal signed totalsText centreText refusalLine sheetLine carriedEnd carryOut lineStep step steps feedCall
 to-finished = feeds true 192 _ (λ e. refl) refl (feeds true 192 _ (λ e. refl) refl here)
 
 pub in-pieces : text ("R 1 9" ∷ "R 4 24" ∷ "S 0 0 0 0 0 0 0 - -" ∷ []) ≡ program input

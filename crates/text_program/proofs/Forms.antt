@@ -5,7 +5,7 @@ use mathlib.Core.List.{List, [], _∷_, _++_}
 use lib.ListN.{length, replicate}
 use lib.Dec.{ltb}
 use borrow.Author.Tests.{lt-ltb}
-use Rattle.parsing.specs.Grammar.{other, letterOf, isP, withFirst, fields, formOfFields, formOf}
+use Rattle.parsing.specs.Grammar.{other, isByte, letterOf, withFirst, fields, formOfFields, formOf}
 use Rattle.integers.proofs.Cases.{by-cond}
 
 -- Of a line of over 32 bytes it matters no more what they are.
@@ -15,11 +15,12 @@ long-line bs h = rw (lt-ltb 32 (length bs) h)
 
 -- A first field that begins with a zero byte is no letter.
 zero-first : (fs : List (List ℕ)) → formOfFields (withFirst 0 fs) ≡ other
-unfolding withFirst formOfFields letterOf isP
+unfolding withFirst formOfFields letterOf isByte
 zero-first [] = refl
 zero-first ([] ∷ []) = refl
 zero-first ((b ∷ f) ∷ []) = refl
-zero-first (f ∷ x ∷ []) = refl
+zero-first ([] ∷ x ∷ []) = refl
+zero-first ((b ∷ f) ∷ x ∷ []) = refl
 zero-first ([] ∷ x ∷ y ∷ []) = refl
 zero-first ((b ∷ f) ∷ x ∷ y ∷ []) = refl
 zero-first (f ∷ x ∷ y ∷ z ∷ fs) = refl

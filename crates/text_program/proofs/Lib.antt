@@ -1,5 +1,6 @@
 mod Worked
 mod WorkedEnds
+mod WorkedRings
 pub mod Forms
 pub mod Lines
 mod TooFar
@@ -17,6 +18,7 @@ mod LastCall
 pub mod Chunks
 mod LinesInTurn
 mod OutputLaws
+mod RingLines
 mod ChunksUses
 mod LineByLine
 mod LineByLineUses

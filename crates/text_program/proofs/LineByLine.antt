@@ -1,4 +1,5 @@
--- The program's output is the one that document 01's sentences say, line by line: each line prints nothing, one O line or one R line, by the number that its call answers.
+-- The program's output is the one that the sentences of document 01 and of document 02's CR 3 say, line by line: each line prints nothing, one O line or one R line, by
+-- the number that its call answers.
 use Prim.Native.Nat.{ℕ, _+_}
 use mathlib.Core.Path.{_≡_, refl, sym, ap, subst, _∙_}
 use mathlib.Core.Bool.{Bool, true, false, true≢false}
@@ -10,7 +11,7 @@ use lib.Dec.{eqb}
 use borrow.Author.Tests.{eqb-true, eqb-false, ne-eqb}
 use Rattle.outline.specs.declared.Walk.{Walk}
 use Rattle.outline.specs.declared.Sheet.{Sheet}
-use Rattle.outline.specs.WalkCalls.{closed, newSheet, sheetWith, EndOutcome, endCall}
+use Rattle.outline.specs.WalkCalls.{closed, newSheet, closedTotals, turned, sheetWith, EndOutcome, endCall}
 use Rattle.outline.specs.CallLists as Calls
 use Rattle.outline.specs.CallLists.{Call, Trace, numberOf, walkAfter, next, after, from}
 use Rattle.outline.specs.WalkedOutline.{IsOutline}
@@ -23,7 +24,7 @@ use Rattle.printing.specs.Output.{outlineLine, refusalLine, sheetLine}
 use Rattle.text_program.specs.Program.{Line, tooFar, told, carriedWalk, carriedEnd, carryOut, outputOf, linesFrom, program}
 use Rattle.text_program.specs.LineByLine.{callOf, LinePrints, formless, silent, outline, refused, Output, ends, far, near, LineByLine, LineByLineOnly}
 use Rattle.text_program.proofs.LinesInTurn.{carried}
-use Rattle.text_program.proofs.OutputLaws.{after-append, end-prints}
+use Rattle.text_program.proofs.OutputLaws.{after-append, answeredFor, end-answers, end-prints}
 
 -- ---- traces that calls from a closed walk on have left
 
@@ -41,7 +42,7 @@ reached-outline (calls, e) = subst IsOutline e (walked-outline (record { start =
 
 -- A line is an end or is not.
 unfoldable pub isEnd : Form → Bool
-isEnd begin = false
+isEnd (begin k) = false
 isEnd end = true
 isEnd abandon = false
 isEnd other = false
@@ -53,7 +54,7 @@ not-end f e q = true≢false (sym (ap isEnd q) ∙ e)
 
 by-end : (f : Form) → (f ≡ end) ⊎ (f ≢ end)
 unfolding isEnd
-by-end begin = inr (not-end begin refl)
+by-end (begin k) = inr (not-end (begin k) refl)
 by-end end = inl refl
 by-end abandon = inr (not-end abandon refl)
 by-end other = inr (not-end other refl)
@@ -66,7 +67,7 @@ same-call {a} e = ap (λ l. getD l 0 a) e
 -- Begin, point and abandon,
 walk-line : (n : ℕ) (f : Form) (w : Walk) (s : Sheet) (c : Call) → callOf f s ≡ c ∷ [] → f ≢ end → carryOut n f w s ≡ record { output = told n (numberOf w c); walk = walkAfter w c; sheet = s }
 unfolding callOf carryOut carriedWalk numberOf walkAfter
-walk-line n begin w s c e h = rw (← same-call e)
+walk-line n (begin k) w s c e h = rw (← same-call e)
 walk-line n end w s c e h = absurd (h refl)
 walk-line n abandon w s c e h = rw (← same-call e)
 walk-line n other w s c e h = absurd (omega (arith, ap length e))
@@ -90,14 +91,6 @@ refused-line n f w s c e h = go f e (by-end f)
     go f e (inl q) = subst (λ c. numberOf w c ≢ 0 → carryOut n f w s ≡ record { output = refusalLine n (numberOf w c); walk = w; sheet = s }) (same-call (ap (λ f. callOf f s) (sym q) ∙ e)) (λ k. ap (λ f. carryOut n f w s) q ∙ refused-end n w s k) h
     go f e (inr q) = walk-line n f w s c e q ∙ rw (ne-eqb (numberOf w c) 0 h, walk-unchanged w c h)
 
--- An accepted end adds its totals to the sheet.
-end-sheet : (w : Walk) (s : Sheet) → endCall w s .number ≡ 0 → endCall w s .sheet ≡ sheetWith s (endCall w s .totals)
-end-sheet w s = go (endCall w s) (end-case w s)
-  where
-    go : (e : EndOutcome) → EndCase w s e → e .number ≡ 0 → e .sheet ≡ sheetWith s (e .totals)
-    go e (Case.refused k q) z = absurd (q .not-0 z)
-    go e (Case.accepted k) z = refl
-
 -- ---- the cases of a line
 
 -- They say what the line does, and the next line's trace is reached too.
@@ -107,9 +100,10 @@ line-does {r} {s = s} {l = l} h (formless f) = (ap (λ f. carryOut (l .number) f
 line-does {r} {s = s} {l = l} h (silent c a f z) = (walk-line (l .number) (formOf (l .bytes)) (r .walk) s c a f ∙ rw z, reached-next h c)
 line-does {r} {s = s} {l = l} h (outline totals f z a) =
     let o = reached-outline h in
-    let same : endCall (r .walk) s .totals ≡ totals = ap (λ t. t .totals) (sym (o .list-call-agrees s z) ∙ a) in
-    let output = end-prints (l .number) r s o z .1 ∙ ap (λ t. outlineLine (s .count + 1) (length (r .points)) (t .totals)) a in
-    let sheet = end-sheet (r .walk) s z ∙ ap (sheetWith s) same in
+    let g = r .ring in
+    let same : answeredFor g ≡ turned (g .kind) totals = ap (λ t. turned (g .kind) (t .totals)) a in
+    let output = end-prints (l .number) r s o z .1 ∙ ap (outlineLine (s .count + 1) (length (g .points))) same in
+    let sheet = ap (λ e. e .sheet) (end-answers r s o z) ∙ ap (sheetWith s) same in
     (ap (λ f. carryOut (l .number) f (r .walk) s) f ∙ (λ i. record { output = output i; walk = endCall (r .walk) s .walk; sheet = sheet i }), reached-next h (Calls.end s))
 line-does {r} {s = s} {l = l} h (refused c a k) = (refused-line (l .number) (formOf (l .bytes)) (r .walk) s c a k, h)
 
@@ -132,11 +126,14 @@ line-prints r s l h = go (formOf (l .bytes)) refl
     silently f c e a k = let b = ap (λ f. callOf f s) e ∙ a in by-number r s l c b (λ z. ([], next r c, s, silent c b (λ q. k (sym e ∙ q)) z))
 
     go : (f : Form) → formOf (l .bytes) ≡ f → Some r s l
-    go begin e = silently begin Calls.begin e refl (not-end begin refl)
+    go (begin k) e = silently (begin k) (Calls.begin k) e refl (not-end (begin k) refl)
     go end e =
         by-number r s l (Calls.end s) (ap (λ f. callOf f s) e) (λ z.
-        let totals = endCall (r .walk) s .totals in
-        (outlineLine (s .count + 1) (length (r .points)) totals, next r (Calls.end s), sheetWith s totals, outline totals e z (reached-outline h .list-call-agrees s z)))
+        let g = r .ring in
+        let o = reached-outline h in
+        let totals = closedTotals (r .walk) in
+        let printed = turned (g .kind) totals in
+        (outlineLine (s .count + 1) (length (g .points)) printed, next r (Calls.end s), sheetWith s printed, outline totals e z (o .list-call-agrees (o .closable s z))))
     go abandon e = silently abandon Calls.abandon e refl (not-end abandon refl)
     go other e = (refusalLine (l .number) 9, r, s, formless e)
     go (point x y) e = silently (point x y) (Calls.point (record { x = x; y = y })) e refl (not-end (point x y) refl)

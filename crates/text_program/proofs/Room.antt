@@ -11,12 +11,13 @@ use Rattle.integers.proofs.Flags.{both-failed}
 use Rattle.integers.proofs.Order.{natAbs-parts, sum-parts}
 use Rattle.outline.specs.declared.Position.{Position}
 use Rattle.outline.specs.declared.Totals.{Totals}
+use Rattle.outline.specs.declared.Kind.{Kind}
 use Rattle.outline.specs.declared.Walk.{Walk}
 use Rattle.outline.specs.declared.Sheet.{Sheet}
 use Rattle.outline.specs.EdgeSums.{plus, exceed}
 use Rattle.outline.specs.ListCall.{outside}
 use Rattle.outline.specs.MapCall.{totalLimits}
-use Rattle.outline.specs.WalkCalls.{addedTotals, impossibleWalk, impossibleSheet, WalkOutcome, EndOutcome, beginCall, pointCall, endCall, abandonCall}
+use Rattle.outline.specs.WalkCalls.{closedTotals, zeroArea, addedTotals, impossibleWalk, impossibleSheet, WalkOutcome, EndOutcome, beginCall, pointCall, endCall, abandonCall}
 use Rattle.outline.specs.private.Fit.{Fit}
 use Rattle.outline.proofs.Limits.{exceed-fit}
 use Rattle.outline.proofs.PossibleWalks.{possible-open, sheet-within}
@@ -71,9 +72,9 @@ pub record Prints (c : Carried) : Type 0 where
 abbrev Small : WalkOutcome → Type 0
 Small r = r .number < 100
 
-begin-small : (w : Walk) → Small (beginCall w)
+begin-small : (w : Walk) (k : Kind) → Small (beginCall w k)
 unfolding beginCall
-begin-small w = by-cond Small (impossibleWalk w) (λ e. omega arith) (λ e. by-cond Small (w .is_open) (λ f. omega arith) (λ f. omega arith))
+begin-small w k = by-cond Small (impossibleWalk w) (λ e. omega arith) (λ e. by-cond Small (w .is_open) (λ f. omega arith) (λ f. omega arith))
 
 point-small : (w : Walk) (p : Position) → Small (pointCall w p)
 unfolding pointCall
@@ -96,6 +97,7 @@ module _ (line : ℕ) (h : line ≤ 2 ^ 32) (s : Sheet) (f : SheetFits s) where
       by-cond Fine (impossibleWalk w || impossibleSheet s) (λ e. record { short = refusal-length line 28 (omega arith) (omega arith); sheet = f }) (λ possible.
       by-cond Fine (not (w .is_open)) (λ e. record { short = refusal-length line 21 (omega arith) (omega arith); sheet = f }) (λ o.
       by-cond Fine (ltb (w .count) 3) (λ e. record { short = refusal-length line 24 (omega arith) (omega arith); sheet = f }) (λ n.
+      by-cond Fine (zeroArea (closedTotals w)) (λ e. record { short = refusal-length line 32 (omega arith) (omega arith); sheet = f }) (λ area.
       by-cond Fine (leb 64 (s .count)) (λ e. record { short = refusal-length line 25 (omega arith) (omega arith); sheet = f }) (λ room.
       by-cond Fine (exceed totalLimits (plus (s .totals) (addedTotals w))) (λ e. record { short = refusal-length line 26 (omega arith) (omega arith); sheet = f }) (λ e.
       let both = both-failed (impossibleWalk w) (impossibleSheet s) possible in
@@ -104,7 +106,7 @@ module _ (line : ℕ) (h : line ≤ 2 ^ 32) (s : Sheet) (f : SheetFits s) where
       record {
         short = outline-length (s .count + 1) (w .count) (addedTotals w) count (omega (arith, possible-open w (both .0) (not-false (w .is_open) o) .count)) (added-within (s .totals) (addedTotals w) (exceed-fit totalLimits (s .totals) (sheet-within s (both .1))) sums);
         sheet = record { count = count; totals = wider (plus (s .totals) (addedTotals w)) sums };
-      })))))
+      }))))))
     where
       Fine : EndOutcome → Type 0
       Fine r = Prints (carriedEnd line (w .count) r)
@@ -112,11 +114,11 @@ module _ (line : ℕ) (h : line ≤ 2 ^ 32) (s : Sheet) (f : SheetFits s) where
   -- and so every line, whatever it asks for.
   pub line-prints : (form : Form) (w : Walk) → Prints (carryOut line form w s)
   unfolding carryOut
-  line-prints begin w = walk-prints (beginCall w) (begin-small w)
+  line-prints (begin k) w = walk-prints _ (begin-small w _)
   line-prints end w = end-prints w
-  line-prints abandon w = walk-prints (abandonCall w) (abandon-small w)
+  line-prints abandon w = walk-prints _ (abandon-small w)
   line-prints other w = record { short = refusal-length line 9 (omega arith) (omega arith); sheet = f }
-  line-prints (point x y) w = walk-prints (pointCall w (record { x = x; y = y })) (point-small w (record { x = x; y = y }))
+  line-prints (point x y) w = walk-prints _ (point-small w _)
 
 -- ---- steps and calls
 

@@ -1,4 +1,5 @@
--- Document 01, "The text program": the output line by line, as its sentences say it, by the numbers that the lines' calls answer. `program` has this output and no other.
+-- Document 01, "The text program", and document 02, CR 3: the output line by line, as their sentences say it, by the numbers that the lines' calls answer. `program` has
+-- this output and no other.
 use Prim.Native.Nat.{ℕ, _+_}
 use mathlib.Core.Path.{_≡_}
 use mathlib.Core.Bool.{true, false}
@@ -8,7 +9,7 @@ use lib.ListN.{length}
 use Rattle.outline.specs.declared.Totals.{Totals}
 use Rattle.outline.specs.declared.Sheet.{Sheet}
 use Rattle.outline.specs.ListCall.{accepted, numbers, listCall}
-use Rattle.outline.specs.WalkCalls.{closed, newSheet, sheetWith}
+use Rattle.outline.specs.WalkCalls.{closed, newSheet, turned, sheetWith}
 use Rattle.outline.specs.CallLists as Calls
 use Rattle.outline.specs.CallLists.{Call, Trace, numberOf, next, from}
 use Rattle.parsing.specs.Grammar.{Form, begin, end, abandon, point, other, formOf}
@@ -17,21 +18,22 @@ use Rattle.text_program.specs.Program.{Line, linesFrom, tooFar, program}
 
 -- The call that a line asks for: none if it has none of the forms. An end is handed the sheet of that moment.
 unfoldable pub callOf : Form → Sheet → List Call
-callOf begin s = Calls.begin ∷ []
+callOf (begin k) s = Calls.begin k ∷ []
 callOf end s = Calls.end s ∷ []
 callOf abandon s = Calls.abandon ∷ []
 callOf other s = []
 callOf (point x y) s = Calls.point (record { x = x; y = y }) ∷ []
 
--- A line within the limits, after calls that left the trace r (the walk, and the points taken since it was opened) and the sheet s: what it prints, and the trace and
--- the sheet that it leaves.
+-- A line within the limits, after calls that left the trace r (the walk, and the ring since it was opened) and the sheet s: what it prints, and the trace and the sheet
+-- that it leaves.
 pub data LinePrints (r : Trace) (s : Sheet) (l : Line) : List ℕ → Trace → Sheet → Type 0 where
   -- 9, and no call.
   formless : formOf (l .bytes) ≡ other → LinePrints r s l (refusalLine (l .number) 9) r s
   -- A begin, a point or an abandon that is accepted is silent.
   silent : (c : Call) → callOf (formOf (l .bytes)) s ≡ c ∷ [] → formOf (l .bytes) ≢ end → numberOf (r .walk) c ≡ 0 → LinePrints r s l [] (next r c) s
-  -- An end that is accepted: which outline of the sheet it is, counted from 1, its points, and the totals that the list call answers for them. The sheet has this outline more.
-  outline : (totals : Totals) → formOf (l .bytes) ≡ end → numberOf (r .walk) (Calls.end s) ≡ 0 → listCall (numbers (r .points)) ≡ accepted totals → LinePrints r s l (outlineLine (s .count + 1) (length (r .points)) totals) (next r (Calls.end s)) (sheetWith s totals)
+  -- An end that is accepted: which outline of the sheet it is, counted from 1, its points, and the totals that the list call answers for them, turned by the kind of the
+  -- last accepted B line. The sheet has one outline and these totals more.
+  outline : (totals : Totals) → formOf (l .bytes) ≡ end → numberOf (r .walk) (Calls.end s) ≡ 0 → listCall (numbers (r .ring .points)) ≡ accepted totals → LinePrints r s l (outlineLine (s .count + 1) (length (r .ring .points)) (turned (r .ring .kind) totals)) (next r (Calls.end s)) (sheetWith s (turned (r .ring .kind) totals))
   -- Refusal: the line's own number and its call's. Nothing else changes.
   refused : (c : Call) → callOf (formOf (l .bytes)) s ≡ c ∷ [] → numberOf (r .walk) c ≢ 0 → LinePrints r s l (refusalLine (l .number) (numberOf (r .walk) c)) r s
 

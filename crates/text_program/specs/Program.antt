@@ -1,4 +1,4 @@
--- Document 01, "The text program" and refusals 9 and 10: all of the input to all of the output.
+-- Document 01, "The text program" and refusals 9 and 10, and document 02, CR 3: all of the input to all of the output.
 use Prim.Native.Nat.{ℕ, _+_}
 use mathlib.Core.Bool.{Bool, _||_, cond}
 use mathlib.Core.List.{List, [], _∷_, _++_}
@@ -52,7 +52,7 @@ carriedEnd line points r = record { output = cond (eqb (r .number) 0) (outlineLi
 
 -- A line of none of the forms is 9, before every other number.
 unfoldable pub carryOut : ℕ → Form → Walk → Sheet → Carried
-carryOut line begin w s = carriedWalk line (beginCall w) s
+carryOut line (begin k) w s = carriedWalk line (beginCall w k) s
 carryOut line (point x y) w s = carriedWalk line (pointCall w (record { x = x; y = y })) s
 carryOut line abandon w s = carriedWalk line (abandonCall w) s
 carryOut line end w s = carriedEnd line (w .count) (endCall w s)

@@ -27,25 +27,25 @@ returns-2 : tie.Need-returns-2
 unfolding carryOut
 returns-2 c =
     let called = c .before .before .before .before in
-    rw (called .before .enum-told .given .1, ← called .begin-walk .ensures) (c .before .before .tell2 .ensures)
+    rw (called .before .before .form2 .given .1, ← called .begin-walk .ensures) (c .before .before .tell2 .ensures)
 
 returns-3 : tie.Need-returns-3
 unfolding carryOut
 returns-3 c =
     let called = c .before .before .before .before in
-    rw (called .before .enum-told2 .given .1, ← called .abandon-walk .ensures) (c .before .before .tell3 .ensures)
+    rw (called .before .enum-told .given .1, ← called .abandon-walk .ensures) (c .before .before .tell3 .ensures)
 
 returns-4 : tie.Need-returns-4
 unfolding carryOut
 returns-4 c =
     let ended = c .before .before in
-    rw (ended .before .before .enum-told3 .given .1) (ended .end-walk .ensures)
+    rw (ended .before .before .enum-told2 .given .1) (ended .end-walk .ensures)
 
 returns-5 : tie.Need-returns-5
 unfolding carryOut carriedWalk
 returns-5 c =
     let told = c .before .before in
-    rw (told .before .before .enum-told4 .given .1) (told .tell4 .ensures)
+    rw (told .before .before .enum-told3 .given .1) (told .tell4 .ensures)
 
 pub carry-out-spec : {M : Type 1} → statement M
 carry-out-spec =
