@@ -4,7 +4,8 @@ python3 second/compare.py PROGRAM [--seed N] [--cases N] [--long]
 
 PROGRAM may be a command of several words in one string.  Standard output is
 compared byte by byte.  Exits 1 with a small input on a difference, and 1 if
-some refusal number that can arise was not seen.
+some refusal number that can arise was not seen, or rings of some kind walked one of
+the two ways.
 """
 import argparse
 import fcntl
@@ -20,15 +21,19 @@ import threading
 import time
 
 import text
+from figures import ACCEPTED, Kind, closed_totals
 from inputs import fixed_inputs
 from limits import byte_limit_inputs, endless_inputs, line_limit_inputs, long_inputs
 from madeup import random_input
 
-# 27 shows as a missing centre.  The others of document 01 cannot arise in text:
-# 2 to 8 belong to the list, map and cell calls, which no line makes; 11 needs a
-# total over 10^18, but outlines have their bounds and 26 keeps sheets within it;
-# 28 needs a walk or sheet from elsewhere, but both come from the lines alone.
-CAN_ARISE = (1, 9, 10, 21, 22, 23, 24, 25, 26, 27)
+# 27 shows as the missing centre of a sheet with outlines; 32 leaves no outline without
+# one.  The others of documents 01 and 02 cannot arise in text: 2 to 8 and 31 belong to
+# the list, map, cell and mask calls, which no line makes; 11 needs a total over 10^18,
+# but outlines have their bounds and 26 keeps sheets within it; 28 needs a walk or sheet
+# from elsewhere, but both come from the lines alone.
+CAN_ARISE = (1, 9, 10, 21, 22, 23, 24, 25, 26, 27, 32)
+# Rings to be accepted: of either kind, the totals of one of the two ways are turned.
+RINGS = {f"{kind.value} walked {way}" for kind in Kind for way in ("anticlockwise", "clockwise")}
 
 RUN_SECONDS = 120
 SHRINK_SECONDS = 60
@@ -177,7 +182,18 @@ def show_outputs(command, wanted, got):
 def numbers_seen(output, wanted):
     """Those of the wanted refusal numbers that this output shows."""
     return {number for number in wanted if re.search(
-        rb"(?m)^[OS].*\t-\t-$" if number == 27 else rb"(?m)^R\t\d+\t%d$" % number, output)}
+        rb"(?m)^S\t[1-9].*\t-\t-$" if number == 27 else rb"(?m)^R\t\d+\t%d$" % number, output)}
+
+
+def rings_seen(data):
+    """Of each accepted ring its kind and the way in which it was walked."""
+    program, seen = text.TextProgram(), set()
+    for line in text.lines(data):
+        walk = program.walk
+        if program.refusal(line) == ACCEPTED and line == b"E":
+            way = "anticlockwise" if closed_totals(walk).a2 > 0 else "clockwise"
+            seen.add(f"{walk.kind.value} walked {way}")
+    return seen
 
 
 def all_inputs(rng, cases, with_long):
@@ -215,7 +231,7 @@ def main():
     command = shlex.split(chosen.program)
     rng = random.Random(chosen.seed)
     inputs = lines = 0
-    missing = set(CAN_ARISE)
+    missing, missing_rings = set(CAN_ARISE), set(RINGS)
     for name, data in all_inputs(rng, chosen.cases, chosen.long):
         chunk_seed = rng.choice([None, rng.randrange(1_000_000)])
         wanted = text.output(data)
@@ -225,12 +241,15 @@ def main():
         inputs += 1
         lines += data.count(b"\n") + (not data.endswith(b"\n") and data != b"")
         missing -= numbers_seen(wanted, missing)
+        if missing_rings:
+            missing_rings -= rings_seen(data)
     if not ends_without_end_of_input(command):
         return 1
     seen = " ".join(str(number) for number in CAN_ARISE if number not in missing)
     print(f"{inputs} inputs, {lines} lines, no difference; refusals seen: {seen}"
-          + (f"; NOT SEEN: {sorted(missing)}" if missing else ""))
-    return 1 if missing else 0
+          + (f"; NOT SEEN: {sorted(missing)}" if missing else "")
+          + (f"; NOT SEEN: {sorted(missing_rings)}" if missing_rings else ""))
+    return 1 if missing or missing_rings else 0
 
 
 if __name__ == "__main__":

@@ -1,10 +1,12 @@
-"""Outlines, walks, sheets and centres of document 01, straight from its rules.
+"""Outlines, walks, sheets and centres of document 01, straight from its rules; islands
+and holes as CR 3 of document 02 has them.
 
 Maps and cuts are in moves.py, cells in cells.py.  Whole numbers only.  Every call
 answers a refusal number first; 0 means that the call was accepted.  A refused call
 answers zeros and changes nothing.
 """
-from operator import add, gt
+from enum import Enum
+from operator import add, gt, neg
 from typing import NamedTuple
 
 COORDINATE_LIMIT = 2_000
@@ -26,9 +28,16 @@ class Totals(NamedTuple):
     yy12: int
 
 
+class Kind(Enum):
+    """CR 3: what the ring of a walk bounds."""
+    ISLAND = "island"
+    HOLE = "hole"
+
+
 class Walk(NamedTuple):
     """"Walk and sheet": the walk that the caller holds."""
     is_open: bool
+    kind: Kind
     count: int
     first: tuple
     last: tuple
@@ -36,7 +45,7 @@ class Walk(NamedTuple):
 
 
 class Sheet(NamedTuple):
-    """"Walk and sheet": outlines accepted so far and the sums of their totals."""
+    """"Walk and sheet": outlines accepted so far and the sums of their totals as added."""
     count: int
     totals: Totals
 
@@ -50,8 +59,9 @@ OUTLINE_BOUNDS = Totals(8_192_000_000,
 WALK_BOUNDS = [Totals(*(count * bound // MOST_POINTS for bound in OUTLINE_BOUNDS))
                for count in range(MOST_POINTS + 1)]
 SHEET_BOUNDS = Totals(*[TOTAL_LIMIT] * 6)
-CLOSED_WALK = Walk(False, 0, (0, 0), (0, 0), ZERO_TOTALS)
-FRESH_WALK = CLOSED_WALK._replace(is_open=True)
+CLOSED_WALK = Walk(False, Kind.ISLAND, 0, (0, 0), (0, 0), ZERO_TOTALS)
+FRESH_ISLAND = CLOSED_WALK._replace(is_open=True)
+FRESH_HOLE = FRESH_ISLAND._replace(kind=Kind.HOLE)
 NEW_SHEET = Sheet(0, ZERO_TOTALS)
 
 
@@ -122,13 +132,13 @@ def sheet_is_turned_back(sheet):
     return sheet.count > MOST_OUTLINES or not within_bounds(sheet.totals, SHEET_BOUNDS)
 
 
-def begin(walk):
+def begin(walk, kind):
     """(number, walk afterwards).  Order 28, 22."""
     if walk_is_turned_back(walk):
         return 28, walk
     if walk.is_open:
         return 22, walk
-    return ACCEPTED, FRESH_WALK
+    return ACCEPTED, FRESH_HOLE if kind is Kind.HOLE else FRESH_ISLAND
 
 
 def point(walk, place):
@@ -147,6 +157,22 @@ def point(walk, place):
     return ACCEPTED, walk._replace(count=walk.count + 1, last=place, totals=totals)
 
 
+def closed_totals(walk):
+    """The walk's totals with the closing edge, in the direction in which it was walked."""
+    return added(walk.totals, edge_terms(walk.last, walk.first))
+
+
+def negated(totals):
+    """All six with the other sign."""
+    return Totals(*map(neg, totals))
+
+
+def turned(kind, totals):
+    """CR 3: negated if needed, so that A2 is above 0 for an island and below 0 for a hole."""
+    has_wrong_sign = totals.a2 > 0 if kind is Kind.HOLE else totals.a2 < 0
+    return negated(totals) if has_wrong_sign else totals
+
+
 def add_to_sheet(sheet, totals):
     """An outline's totals put on a sheet: (number, sheet afterwards).  Order 25, 26."""
     if sheet.count >= MOST_OUTLINES:
@@ -158,14 +184,17 @@ def add_to_sheet(sheet, totals):
 
 
 def end(walk, sheet):
-    """(number, totals, walk afterwards, sheet afterwards).  Order 28, 21, 24, 25, 26."""
+    """(number, totals, walk afterwards, sheet afterwards).  Order 28, 21, 24, 32, 25, 26."""
     if walk_is_turned_back(walk) or sheet_is_turned_back(sheet):
         return 28, ZERO_TOTALS, walk, sheet
     if not walk.is_open:
         return 21, ZERO_TOTALS, walk, sheet
     if walk.count < LEAST_POINTS:
         return 24, ZERO_TOTALS, walk, sheet
-    totals = added(walk.totals, edge_terms(walk.last, walk.first))
+    totals = closed_totals(walk)
+    if totals.a2 == 0:
+        return 32, ZERO_TOTALS, walk, sheet
+    totals = turned(walk.kind, totals)
     number, sheet_afterwards = add_to_sheet(sheet, totals)
     if number != ACCEPTED:
         return number, ZERO_TOTALS, walk, sheet

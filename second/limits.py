@@ -1,8 +1,9 @@
 """Input at the limits of 10, made on the spot: pairs of a name and bytes."""
-from inputs import SQUARE, joined, outline_lines, outlines, point_line
+from inputs import FIGURE_EIGHT, HOLE, SQUARE, joined, outline_lines, outlines, point_line
 from text import MOST_BYTES, MOST_LINES
 
-OPEN_WALK = b"B\nP\t0\t0\nP\t9\t0\nP\t0\t9\n"
+# A hole walked anticlockwise, so that its end turns it.
+OPEN_WALK = b"B\tH\nP\t0\t0\nP\t9\t0\nP\t0\t9\n"
 ALL_LINES_BUT_ONE = OPEN_WALK + b"\n" * (MOST_LINES - 1 - OPEN_WALK.count(b"\n"))
 
 
@@ -26,6 +27,8 @@ def byte_limit_inputs(rng):
     for byte in (MOST_BYTES, MOST_BYTES + 1):
         yield f"byte {byte} is the newline of a sound line", ending_at(rng, byte, b"E\n", b"B\nE\n")
         yield f"byte {byte} is inside a sound line", ending_at(rng, byte, b"P\t", b"5\t5\nE\n")
+        yield f"byte {byte} is inside a hole's begin", ending_at(rng, byte, b"A\nB\t", b"H\nE\n")
+        yield f"byte {byte} ends a hole's begin", ending_at(rng, byte, b"A\nB\tH", b"")
         yield f"byte {byte} is all of a sound line", ending_at(rng, byte, b"E", b"\nE\n")
         yield f"byte {byte} ends the input without a newline", ending_at(rng, byte, b"E", b"")
         yield f"byte {byte} is an empty line", ending_at(rng, byte, b"\n", b"")
@@ -52,15 +55,17 @@ def long_inputs(rng):
     yield "1,000,000 lines of 33 bytes and a byte", (b"x" * 32 + b"\n") * MOST_LINES + b"\n"
     yield "1,000,000 lines, no last newline", ALL_LINES_BUT_ONE + b"E"
     yield "1,000,001 lines, the last empty", ALL_LINES_BUT_ONE + b"\n\n"
-    yield "1,000,001 sound lines and more", b"B\nA\n" * (MOST_LINES // 2) + b"E\nE\nB\n"
+    yield "1,000,001 sound lines and more", b"B\nA\nB\tH\nA\n" * (MOST_LINES // 4) + b"E\nE\nB\n"
     walk = outline_lines([(x, x * 7 % 1999) for x in range(1000)])
     yield "a million points and more", joined(walk) * 1_010
     yield "one walk for a million lines", b"B\n" + joined(map(point_line, [(3, 4), (-5, 6)])) * 500_000
     heavy = joined(outlines(*[SQUARE * 256] * 16))
     yield "one end refused by 26 many times", heavy + b"E\n" * (MOST_LINES - heavy.count(b"\n"))
+    no_area = joined(outline_lines(FIGURE_EIGHT, first=HOLE))
+    yield "one end refused by 32 many times", no_area + b"E\n" * (MOST_LINES - no_area.count(b"\n"))
     for _ in range(4):
-        alphabet = rng.choice([b"BEPA\t0-19\n\n", b"\n\n\nBEAx", b"PBE\t\x00\r0123456789-\n",
-                               bytes(range(256))])
+        alphabet = rng.choice([b"BEPAH\t0-19\n\n", b"\n\n\nBEAx", b"PBE\t\x00\r0123456789-\n",
+                               b"BH\t\n\nAE", bytes(range(256))])
         data = bytes(rng.choices(alphabet, k=1_000_000)) * 34
         yield f"34,000,000 bytes of {alphabet[:20]!r}", data
     yield "40,000,000 newlines", b"\n" * 40_000_000

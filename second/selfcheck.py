@@ -1,6 +1,6 @@
 """Checks of this program by itself: the listing and the ✱ rows of document 01,
-corner cases of its rules, and its laws on made-up outlines; those of cells and
-masks are in selfcheck_cells.py.
+corner cases of its rules, and its laws on made-up outlines; those of islands and
+holes are in selfcheck_rings.py, those of cells and masks in selfcheck_cells.py.
 
 Runnable; prints what fails and exits 1, else prints how many checks passed.
 """
@@ -9,34 +9,26 @@ import sys
 
 import text
 from checks import check, failed, passed
-from figures import CLOSED_WALK, FRESH_WALK, NEW_SHEET, OUTLINE_BOUNDS, ZERO_TOTALS
-from figures import Sheet, Totals
-from figures import abandon, added, begin, centre_of_totals, edge_terms, end
+from figures import CLOSED_WALK, FRESH_ISLAND, NEW_SHEET, OUTLINE_BOUNDS, ZERO_TOTALS
+from figures import Kind, Sheet, Totals
+from figures import abandon, added, begin, centre_of_totals, closed_totals, edge_terms, end
 from figures import list_call, outline_totals, point, within_limits
-from inputs import LISTING
+from inputs import FIGURE_EIGHT, LISTING, RECTANGLE, UNIT_SQUARE, with_tabs
 from madeup import random_points
 from moves import AffineMap, Cut
 from moves import after_cuts, map_call, moved, started_at, walked_backwards
 from selfcheck_cells import check_mask_corners, check_mask_laws, check_region_corners, check_worked_regions
+from selfcheck_rings import check_end_order, check_kinds, check_ring_laws, check_turns, check_worked_rings
 from worked import numbers_of, walked
 
 LISTING_OUTPUT = ("O 1 4 80 1200 960 14720 21120 8960 5 4",
-                  "O 2 4 0 -8 0 -32 -32 0 - -",
-                  "R 13 21",
-                  "S 2 80 1192 960 14688 21088 8960 5 4")
-RECTANGLE = [(2, 0), (10, 4), (8, 8), (0, 4)]
-FIGURE_EIGHT = [(0, 0), (2, 2), (2, 0), (0, 2)]
-UNIT_SQUARE = [(0, 0), (1, 0), (1, 1), (0, 1)]
+                  "R 12 32",
+                  "S 1 80 1200 960 14720 21120 8960 5 4")
 SQUARE_WEST = [(-1, 0), (0, 0), (0, 1), (-1, 1)]
 
 
-def with_tabs(shown_lines):
-    """Lines shown with spaces, as bytes with tabs and newlines."""
-    return "".join(line.replace(" ", "\t") + "\n" for line in shown_lines).encode()
-
-
 def check_listing():
-    """"The text program": the listing, with and without its last newline."""
+    """"The text program": the listing as CR 3 of document 02 has it, with and without its last newline."""
     check("listing", text.output(LISTING + b"\n"), with_tabs(LISTING_OUTPUT))
     check("listing without newline", text.output(LISTING), with_tabs(LISTING_OUTPUT))
     check("no input", text.output(b""), with_tabs(["S 0 0 0 0 0 0 0 - -"]))
@@ -79,19 +71,19 @@ def check_walk_corners():
     """"Walk and sheet" and 28: corner cases."""
     odd_closed = CLOSED_WALK._replace(count=7, totals=ZERO_TOTALS._replace(a2=5))
     full_sheet = Sheet(65, ZERO_TOTALS)
-    check("closed, begin", begin(odd_closed), (0, FRESH_WALK))
+    check("closed, begin", begin(odd_closed, Kind.ISLAND), (0, FRESH_ISLAND))
     check("closed, point", point(odd_closed, (2001, 0)), (21, odd_closed))
     check("closed, abandon", abandon(odd_closed), (21, odd_closed))
     check("closed, end", end(odd_closed, NEW_SHEET), (21, ZERO_TOTALS, odd_closed, NEW_SHEET))
     check("bad sheet", end(odd_closed, full_sheet), (28, ZERO_TOTALS, odd_closed, full_sheet))
-    no_points = FRESH_WALK._replace(first=(99999, -5))
-    check("no points, begin", begin(no_points), (22, no_points))
-    check("no points, point", point(no_points, (3, 4)), (0, FRESH_WALK._replace(count=1, first=(3, 4), last=(3, 4))))
+    no_points = FRESH_ISLAND._replace(first=(99999, -5))
+    check("no points, begin", begin(no_points, Kind.ISLAND), (22, no_points))
+    check("no points, point", point(no_points, (3, 4)), (0, FRESH_ISLAND._replace(count=1, first=(3, 4), last=(3, 4))))
     check("no points, end", end(no_points, NEW_SHEET), (24, ZERO_TOTALS, no_points, NEW_SHEET))
     check("no points, abandon", abandon(no_points), (0, CLOSED_WALK))
     bad = no_points._replace(totals=ZERO_TOTALS._replace(a2=1))
     check("no points with area", abandon(bad), (28, bad))
-    one = FRESH_WALK._replace(count=1, last=(5, 5), totals=ZERO_TOTALS._replace(a2=8_000_000))
+    one = FRESH_ISLAND._replace(count=1, last=(5, 5), totals=ZERO_TOTALS._replace(a2=8_000_000))
     check("one point", abandon(one), (0, CLOSED_WALK))
     for total in range(6):
         most = [0] * 6
@@ -100,8 +92,8 @@ def check_walk_corners():
         most[total] -= 1
         over = one._replace(totals=Totals(*most))
         check("28 over its bound", abandon(over), (28, over))
-    handed_in = FRESH_WALK._replace(count=1024, first=(2000, 2000), last=(2000, -2000),
-                                    totals=ZERO_TOTALS._replace(a2=8_192_000_000))
+    handed_in = FRESH_ISLAND._replace(count=1024, first=(2000, 2000), last=(2000, -2000),
+                                      totals=ZERO_TOTALS._replace(a2=8_192_000_000))
     check("end over the outline bounds", end(handed_in, NEW_SHEET)[1].a2, 8_200_000_000)
     check("1,025 points", abandon(handed_in._replace(count=1025))[0], 28)
     check("open edge by 000", edge_terms((2, 0), (10, 4)).x6, 96)
@@ -141,18 +133,18 @@ def check_demand_3(rng, outline):
     check("backwards", backward, tuple(-total for total in whole))
     if all(within_limits(place) for place in moved(affine, outline)):
         check("moved", (0, under_map), map_call(affine, whole))
-    check("walked", end(walked(outline), NEW_SHEET), (0, whole, CLOSED_WALK, Sheet(1, whole)))
+    check("walked", closed_totals(walked(outline)), whole)
 
 
 def check_text_beside_calls(rng):
     """The text program beside begin, point, end and abandon on the same made-up lines."""
     walk, sheet, wanted = CLOSED_WALK, NEW_SHEET, []
-    shown = [rng.choice(["B", "E", "A"] + [f"P {rng.randint(-9, 9)} {rng.choice([-2001, 0, 3, 5])}"] * 6)
+    shown = [rng.choice(["B", "B H", "E", "A"] + [f"P {rng.randint(-9, 9)} {rng.choice([-2001, 0, 3, 5])}"] * 6)
              for _ in range(200)]
     for line_number, line in enumerate(shown, 1):
         points = walk.count
-        if line == "B":
-            number, walk = begin(walk)
+        if line.startswith("B"):
+            number, walk = begin(walk, Kind.HOLE if line == "B H" else Kind.ISLAND)
         elif line == "A":
             number, walk = abandon(walk)
         elif line == "E":
@@ -176,13 +168,19 @@ if __name__ == "__main__":
     check_unnoticed_errors()
     check_walk_corners()
     check_other_corners()
+    check_worked_rings()
+    check_kinds()
+    check_end_order()
+    check_turns()
     check_worked_regions()
     check_region_corners()
     check_mask_corners()
     made_up = random.Random(1)
     for _ in range(200):
         reach = made_up.choice([2, 30, 500, 2000])
-        check_demand_3(made_up, random_points(made_up, reach, 3, 12))
+        outline = random_points(made_up, reach, 3, 12)
+        check_demand_3(made_up, outline)
+        check_ring_laws(outline)
         check_text_beside_calls(made_up)
     for _ in range(100):
         check_mask_laws(made_up)

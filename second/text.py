@@ -1,12 +1,13 @@
-"""The text program of document 01: all of standard input to all of standard output."""
+"""The text program of documents 01 and 02: all of standard input to all of standard output."""
 import re
 
-from figures import ACCEPTED, CLOSED_WALK, NEW_SHEET
+from figures import ACCEPTED, CLOSED_WALK, NEW_SHEET, Kind
 from figures import abandon, begin, centre_of_totals, end, point
 
 MOST_LINES = 1_000_000
 MOST_BYTES = 33_000_000
 
+BEGIN_LINES = {b"B": Kind.ISLAND, b"B\tH": Kind.HOLE}
 # An optional - and one to four digits, no leading zero but 0 itself, no -0.
 NUMBER = rb"(0|-?[1-9][0-9]{0,3})"
 POINT_LINE = re.compile(rb"P\t" + NUMBER + rb"\t" + NUMBER)
@@ -53,8 +54,8 @@ class TextProgram:
         """
         if line is None:
             return 10
-        if line == b"B":
-            number, self.walk = begin(self.walk)
+        if line in BEGIN_LINES:
+            number, self.walk = begin(self.walk, BEGIN_LINES[line])
         elif line == b"E":
             number = self.end()
         elif line == b"A":

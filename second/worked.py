@@ -1,10 +1,10 @@
-"""The rows of "Plots worked by hand" in document 01 that carry no ✱, then masks of document 02, one line each.
+"""The rows of "Plots worked by hand" in document 01 that carry no ✱, then rings and masks of document 02, one line each.
 
 Fields are separated by tabs: label, what was asked, refusal number (0 if accepted), values.
 """
 from cells import Run, region_totals
-from figures import CLOSED_WALK, FRESH_WALK, NEW_SHEET, ZERO_TOTALS
-from figures import begin, end, list_call, point
+from figures import CLOSED_WALK, FRESH_ISLAND, NEW_SHEET, TOTAL_LIMIT, ZERO_TOTALS
+from figures import Kind, Sheet, begin, end, list_call, point
 from inputs import SQUARE
 from masks import MOST_WORDS, WORDS_IN_A_ROW, mask_runs, mask_totals
 from moves import AffineMap, map_call
@@ -25,9 +25,9 @@ def numbers_of(points):
     return [number for place in points for number in place]
 
 
-def walked(points, walk=CLOSED_WALK):
+def walked(points, kind=Kind.ISLAND, walk=CLOSED_WALK):
     """An open walk that has accepted these points, begun on a closed one."""
-    number, walk = begin(walk)
+    number, walk = begin(walk, kind)
     assert number == 0
     for place in points:
         number, walk = point(walk, place)
@@ -61,7 +61,7 @@ def sheet_row(earlier):
     Answered: number and totals of its end, then the sheet."""
     walk, sheet = CLOSED_WALK, NEW_SHEET
     for _ in range(earlier + 1):
-        number, totals, walk, sheet = end(walked(SQUARE * 256, walk), sheet)
+        number, totals, walk, sheet = end(walked(SQUARE * 256, walk=walk), sheet)
     return ["sheet", earlier, number, *totals, sheet.count, *sheet.totals]
 
 
@@ -74,9 +74,28 @@ def run_row(first, length):
 def walk_row(count, a2):
     """An open walk handed in.  Asked: points, A2.
     Answered: number, six totals of its end, the sheet's count."""
-    walk = FRESH_WALK._replace(count=count, totals=ZERO_TOTALS._replace(a2=a2))
+    walk = FRESH_ISLAND._replace(count=count, totals=ZERO_TOTALS._replace(a2=a2))
     number, totals, _, sheet = end(walk, NEW_SHEET)
     return ["walk", count, a2, number, *totals, sheet.count]
+
+
+def ring_row(kind, points, a2):
+    """A triangle walked as a ring, on a sheet of one outline.  Asked: kind, three points, the sheet's A2.
+    Answered: number and totals of its end, how many points the walk then has, the sheet."""
+    sheet = Sheet(count=1, totals=ZERO_TOTALS._replace(a2=a2))
+    number, totals, walk, sheet = end(walked(points, kind), sheet)
+    return ["ring", kind.value, *numbers_of(points), a2, number, *totals, walk.count, sheet.count, *sheet.totals]
+
+
+def ring_rows():
+    """The fields of the rings' rows: the pond; three points on a line; a triangle whose A2 is 2, on sheets with
+    room for 1 more and for 1 less.  Each as it is listed and walked the other way, as an island and as a hole."""
+    corner = [(0, 0), (1, 0), (0, 2)]
+    for points, a2 in (([(4, 2), (6, 3), (5, 5)], 80), ([(0, 0), (6, 3), (2, 1)], 80),
+                       (corner, TOTAL_LIMIT - 1), (corner, 1 - TOTAL_LIMIT)):
+        for kind in Kind:
+            yield ring_row(kind, points, a2)
+            yield ring_row(kind, points[::-1], a2)
 
 
 def all_ones(words):
@@ -134,6 +153,7 @@ def rows():
     yield run_row(1023, 2)
     yield walk_row(3, 24_000_000)
     yield walk_row(3, 24_000_001)
+    yield from ring_rows()
     yield from mask_rows()
 
 

@@ -1,9 +1,12 @@
--- Document 01, "Plots worked by hand": what the plots that carry no ✱ ask, for the program that runs them.
+-- Document 01, "Plots worked by hand": what the plots that carry no ✱ ask, and the rings of document 02, CR 3, for the program that runs them.
 use Prim.Native.Nat.{ℕ, zero, suc, _%_}
 use mathlib.Core.List.{List, [], _∷_, _++_}
 use lib.ListN.{getD}
 use lib.IntN.{ℤ, pos, negℤ}
+use Rattle.outline.specs.declared.Kind.{Kind}
+use Rattle.outline.specs.declared.Kind.the-variants.{Island}
 use Rattle.outline.specs.declared.Position.{Position}
+use Rattle.outline.specs.declared.Totals.{Totals}
 use Rattle.outline.specs.declared.AffineMap.{AffineMap}
 use Rattle.outline.specs.declared.Walk.{Walk}
 use Rattle.outline.specs.ListCall.{points}
@@ -36,7 +39,7 @@ afterRounds (suc n) w = afterPoints (afterRounds n w) (points square)
 
 -- Begin, then 256 rounds: 1,024 points.
 unfoldable pub walkedSquare : Walk → Walk
-walkedSquare w = afterRounds 256 (beginCall w .walk)
+walkedSquare w = afterRounds 256 (beginCall w Island .walk)
 
 -- The end of such an outline, on a sheet that has n of them.
 unfoldable pub endAfter : ℕ → EndOutcome
@@ -53,6 +56,14 @@ triangle x = x ∷ pos 0 ∷ pos 0 ∷ pos 2000 ∷ negℤ (pos 2000) ∷ pos 0 
 abbrev pub runOf : ℕ → ℕ → Run
 runOf first length = record { row = 0; first = first; length = length }
 
--- An open walk of so many points with this A2, all else zero.
+-- A2 alone.
+abbrev pub areaAlone : ℤ → Totals
+areaAlone a2 = record { a2 = a2; x6 = pos 0; y6 = pos 0; xx12 = pos 0; xy24 = pos 0; yy12 = pos 0 }
+
+-- An open walk of so many points with this A2, an island, all else zero.
 abbrev pub handedIn : ℕ → ℤ → Walk
-handedIn count a2 = openWalk count origin origin (record { a2 = a2; x6 = pos 0; y6 = pos 0; xx12 = pos 0; xy24 = pos 0; yy12 = pos 0 })
+handedIn count a2 = openWalk Island count origin origin (areaAlone a2)
+
+-- Begin and three points.
+abbrev pub walkedTriangle : Kind → Position → Position → Position → Walk
+walkedTriangle k a b c = afterPoints (beginCall closed k .walk) (a ∷ b ∷ c ∷ [])

@@ -1,9 +1,10 @@
-// Document 01, "Plots worked by hand": the plots that carry no ✱, and masks of document 02, run through the proved functions. Each prints a row: label, what was asked, number of
+// Document 01, "Plots worked by hand": the plots that carry no ✱, and rings and masks of document 02, run through the proved functions. Each prints a row: label, what was asked, number of
 // the refusal (0 where accepted) and values, separated by tabs, as second/worked.py prints them too. The plots marked ✱ are rows of worked_rows/specs/Rows.antt.
 ghost use Prim.Native.Nat.{_≤_};
 
 mod mask_rows;
 mod plots;
+mod ring_rows;
 mod show;
 
 use outline::Position;
@@ -110,5 +111,6 @@ fn main() {
     run_row(1023, 2);
     walk_row(3, 24_000_000);
     walk_row(3, 24_000_001);
+    ring_rows::ring_rows();
     mask_rows::mask_rows();
 }

@@ -15,6 +15,7 @@ use affine::MapAnswer;
 use cells::RegionAnswer;
 use cells::Run;
 use outline::AffineMap;
+use outline::Kind;
 use outline::ORIGIN;
 use outline::Position;
 use outline::Totals;
@@ -83,7 +84,7 @@ fn walk_round(w: Walk) -> Walk
 fn walk_square(w: Walk) -> Walk
     ensures { λ r. ⌜ r ≡ walkedSquare w ⌝ }
 {
-    let begun = walk_state::begin(w);
+    let begun = walk_state::begin(w, Kind::Island);
     let mut walk = begun.walk;
     let mut rounds: u32 = 0;
     while rounds < 256 {
@@ -131,7 +132,7 @@ pub(crate) fn run_totals(first: u32, length: u32) -> RegionAnswer
     region_array::region_totals_of(runs, 1)
 }
 
-// The end of an open walk of `count` points with this A2, on a new sheet.
+// The end of an open walk of `count` points with this A2, an island, on a new sheet.
 pub(crate) fn handed_in(count: u32, a2: i64) -> EndReply
     ensures { λ r. ⌜ endReading r ≡ endCall (handedIn count a2) newSheet ⌝ }
 {
@@ -143,6 +144,6 @@ pub(crate) fn handed_in(count: u32, a2: i64) -> EndReply
         xy24: 0,
         yy12: 0,
     };
-    let walk = walk_state::open_walk(count, ORIGIN, ORIGIN, totals);
+    let walk = walk_state::open_walk(Kind::Island, count, ORIGIN, ORIGIN, totals);
     outline_calls::end(walk, walk_state::new_sheet())
 }

@@ -1,4 +1,5 @@
 // A row on standard output: its label, then fields, each after a tab.
+use outline::Kind;
 use outline::Totals;
 
 pub(crate) fn show_label(label: &[u8]) {
@@ -21,6 +22,17 @@ pub(crate) fn show_integer(n: i64) {
 
 pub(crate) fn show_coordinate(x: i32) {
     show_integer(x as i64);
+}
+
+pub(crate) fn show_kind(kind: Kind) {
+    match kind {
+        Kind::Island => {
+            io::write_all(1, b"\tisland");
+        }
+        Kind::Hole => {
+            io::write_all(1, b"\thole");
+        }
+    }
 }
 
 pub(crate) fn show_totals(t: Totals) {

@@ -4,17 +4,24 @@ use Rattle.outline.specs.EdgeSums.{openEdges, edges, sumOver, over, exceed}
 use Rattle.outline.specs.ListCall.{points, numbers, outside, anyOutside, wrongLength, listCall}
 use Rattle.outline.specs.MapCall.{disallowed, mapCall}
 use Rattle.outline.specs.Pieces.{neighbours, canCut, cutOnce, cutAll}
+use Rattle.outline.specs.WalkCalls.{extended, hasSign, turned, zeroArea, impossibleWalk, impossibleSheet, beginCall, pointCall, endCall}
+use Rattle.outline.specs.CallLists.{numberOf, walkAfter, ringWith, next, after, sheetAfter}
 use Rattle.outline.proofs.Every.{All}
 use Rattle.centroid.specs.Centroid.{isCentre, firstCentre, centre, signedBy, outlineCentroidCall}
 use Rattle.cell_ground.specs.CellSums.{sumsOver}
 use Rattle.cell_ground.specs.Ground.{groundOf}
 use Rattle.cells.specs.RunCells.{cellsFrom, cellsOf, allCells}
 use Rattle.cells.specs.RegionCall.{badRun, anyBad, liesAfter, disordered, tooMany, regionCall}
-use Rattle.worked_rows.specs.Rows.{holds, rows, errorRows}
+use Rattle.worked_rows.specs.Rows.{holds, rows, ringRows, errorRows}
 
 pub worked : All holds rows
 unfolding openEdges edges sumOver over exceed points numbers outside anyOutside wrongLength listCall disallowed mapCall neighbours canCut cutOnce cutAll isCentre firstCentre centre signedBy outlineCentroidCall cellsFrom cellsOf allCells sumsOver groundOf badRun anyBad disordered tooMany regionCall holds
 worked = (refl, (refl, (refl, (refl, (refl, (refl, (refl, (refl, (refl, (refl, (refl, (λ index. refl, (λ index. refl, tt)))))))))))))
+
+-- The rings of document 02, CR 3.
+pub ring-rows : All holds ringRows
+unfolding over exceed outside extended hasSign turned zeroArea impossibleWalk impossibleSheet beginCall pointCall endCall numberOf walkAfter ringWith next after sheetAfter holds
+ring-rows = (refl, (refl, (refl, (refl, (refl, (refl, (refl, (refl, (refl, (refl, (refl, tt)))))))))))
 
 -- The rows for "Errors a surveyor would not notice".
 pub error-rows : All holds errorRows

@@ -1,16 +1,22 @@
 -- Document 01, "Plots worked by hand": the plots marked ✱ as one list of rows, each what is asked and the figures that are answered, the run's as document 02,
--- CR 2, has them; and rows for "Errors a surveyor would not notice".
+-- CR 2, has them; the rings of document 02, CR 3; and rows for "Errors a surveyor would not notice".
 use Prim.Native.Nat.{ℕ}
 use mathlib.Core.Path.{_≡_}
-use mathlib.Core.List.{List, [], _∷_, _++_, map}
+use mathlib.Core.List.{List, [], _∷_, _++_, map, reverse}
 use lib.IntN.{ℤ, pos, negℤ}
+use Rattle.outline.specs.declared.Kind.the-variants.{Island, Hole}
 use Rattle.outline.specs.declared.Position.{Position}
 use Rattle.outline.specs.declared.Totals.{Totals}
 use Rattle.outline.specs.declared.AffineMap.{AffineMap}
+use Rattle.outline.specs.declared.Walk.{Walk}
+use Rattle.outline.specs.declared.Sheet.{Sheet}
 use Rattle.outline.specs.EdgeSums.{zeros}
-use Rattle.outline.specs.ListCall.{Outcome, accepted, numbers, listCall}
+use Rattle.outline.specs.ListCall.{Outcome, accepted, refused as notAccepted, numbers, listCall}
 use Rattle.outline.specs.MapCall.{mapCall}
 use Rattle.outline.specs.Pieces.{Piece, Cut, piecesOf, totalsOf}
+use Rattle.outline.specs.WalkCalls.{closed, sheetOf, newSheet, endCall}
+use Rattle.outline.specs.CallLists.{Ring, after, from, sheetAfter}
+use Rattle.outline.specs.EveryOutline.{callsOf}
 use Rattle.centroid.specs.Centroid.{CentroidOutcome, refused, outlineCentroidCall}
 use Rattle.cells.specs.declared.Run.{Run}
 use Rattle.cells.specs.RegionCall.{RegionOutcome, regionCall}
@@ -26,6 +32,10 @@ pub data Row : Type 0 where
   mapping : AffineMap → List Position → Outcome → Row
   -- One cut of an outline: A2 and X6 of each piece.
   cut : List Position → Cut → List (ℤ × ℤ) → Row
+  -- The end of a ring that is walked, on a new sheet: its number, and its totals.
+  ring : Ring → Outcome → Row
+  -- The sheet that the ends of rings leave, one after another from a new sheet on.
+  sheet : List Ring → Sheet → Row
   -- The call on a list of runs.
   region : List Run → RegionOutcome → Row
   -- The centre of the totals that it answers.
@@ -34,12 +44,21 @@ pub data Row : Type 0 where
 abbrev areaAndX6 : Piece → ℤ × ℤ
 areaAndX6 p = (totalsOf p .a2, totalsOf p .x6)
 
+-- The walk that begin and the points of a ring leave.
+abbrev walkedRing : Ring → Walk
+walkedRing g = after (from closed) (callsOf g) .walk
+
+abbrev endOf : Ring → Outcome
+endOf g = let e = endCall (walkedRing g) newSheet in record { number = e .number; totals = e .totals }
+
 -- The definitions give the row's figures. A region's are the same whichever index stands for the one that document 01 leaves open.
 unfoldable pub holds : Row → Type 0
 holds (list ps answer) = listCall (numbers ps) ≡ answer
 holds (centre ps answer) = outlineCentroidCall (totalsOf ps) ≡ answer
 holds (mapping m ps answer) = mapCall m (totalsOf ps) ≡ answer
 holds (cut ps c answers) = map areaAndX6 (piecesOf ps (c ∷ [])) ≡ answers
+holds (ring g answer) = endOf g ≡ answer
+holds (sheet gs answer) = sheetAfter newSheet (map walkedRing gs) ≡ answer
 holds (region rs answer) = (index : ℕ) → regionCall rs index ≡ answer
 holds (regionCentre rs answer) = (index : ℕ) → outlineCentroidCall (regionCall rs index .totals) ≡ answer
 
@@ -105,6 +124,37 @@ rows =
     ∷ centre onePointThrice (refused 27)
     ∷ region (shortRun ∷ []) (regionOf (totals (pos 6) (pos 63) (pos 63) (pos 468) (pos 882) (pos 444)))
     ∷ regionCentre (shortRun ∷ []) (centreAt (pos 4) (pos 4))
+    ∷ []
+
+-- ---- the rings of document 02, CR 3
+
+abbrev pub pond : List Position
+pond = at (pos 4) (pos 2) ∷ at (pos 6) (pos 3) ∷ at (pos 5) (pos 5) ∷ []
+
+-- The figure eight, and the point of the listing's line 13.
+abbrev pub figureEightAndOne : List Position
+figureEightAndOne = figureEight ++ at (pos 1) (pos 1) ∷ []
+
+abbrev island : List Position → Ring
+island ps = record { kind = Island; points = ps }
+
+abbrev hole : List Position → Ring
+hole ps = record { kind = Hole; points = ps }
+
+-- Each ring as it is walked first, and back; then the sheets of the listing, of the listing with one more end, of a plot with a pond, and of a plot all taken off.
+abbrev pub ringRows : List Row
+ringRows =
+    ring (island rectangle) (accepted (totals (pos 80) (pos 1200) (pos 960) (pos 14720) (pos 21120) (pos 8960)))
+    ∷ ring (island (reverse rectangle)) (accepted (totals (pos 80) (pos 1200) (pos 960) (pos 14720) (pos 21120) (pos 8960)))
+    ∷ ring (hole pond) (accepted (totals (minus 5) (minus 75) (minus 50) (minus 755) (minus 1005) (minus 345)))
+    ∷ ring (hole (reverse pond)) (accepted (totals (minus 5) (minus 75) (minus 50) (minus 755) (minus 1005) (minus 345)))
+    ∷ ring (island figureEight) (notAccepted 32)
+    ∷ ring (hole figureEight) (notAccepted 32)
+    ∷ ring (island figureEightAndOne) (accepted (totals (pos 2) (pos 10) (pos 6) (pos 34) (pos 40) (pos 14)))
+    ∷ sheet (island rectangle ∷ island figureEight ∷ []) (sheetOf 1 (totals (pos 80) (pos 1200) (pos 960) (pos 14720) (pos 21120) (pos 8960)))
+    ∷ sheet (island rectangle ∷ island figureEightAndOne ∷ []) (sheetOf 2 (totals (pos 82) (pos 1210) (pos 966) (pos 14754) (pos 21160) (pos 8974)))
+    ∷ sheet (island rectangle ∷ hole pond ∷ []) (sheetOf 2 (totals (pos 75) (pos 1125) (pos 910) (pos 13965) (pos 20115) (pos 8615)))
+    ∷ sheet (island rectangle ∷ hole rectangle ∷ []) (sheetOf 2 zeros)
     ∷ []
 
 -- ---- rows for the errors that a surveyor would not notice; what each error makes of its plot is in proofs/Errors
