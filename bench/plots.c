@@ -1,4 +1,4 @@
-/* The text program of document 01 in C: the same input, output and limits, with no proof. A read or a write that fails ends it without an S line. */
+/* The text program of documents 01 and 02 in C: the same input, output and limits, with no proof. A read or a write that fails ends it without an S line. */
 #include <stdint.h>
 #include <string.h>
 #include <unistd.h>
@@ -14,7 +14,8 @@ static const int64_t SHEET_LIMIT = 1000000000000000000;
 #endif
 
 struct totals { int64_t a2, x6, y6, xx12, xy24, yy12; };
-struct walk { int is_open; uint32_t count; int32_t first_x, first_y, last_x, last_y; struct totals totals; };
+enum kind { ISLAND, HOLE };
+struct walk { int is_open; enum kind kind; uint32_t count; int32_t first_x, first_y, last_x, last_y; struct totals totals; };
 struct sheet { uint32_t count; struct totals totals; };
 
 static char in[CHUNK + PAD], out[CHUNK];
@@ -54,10 +55,10 @@ static int beyond_sheet(const struct totals *t) {
 
 static int impossible_sheet(const struct sheet *s) { return TEST_28 && (s->count > MOST_OUTLINES || beyond_sheet(&s->totals)); }
 
-static uint32_t begin(struct walk *w) {
+static uint32_t begin(struct walk *w, enum kind kind) {
     if (impossible_walk(w)) return 28;
     if (w->is_open) return 22;
-    *w = (struct walk){.is_open = 1};
+    *w = (struct walk){.is_open = 1, .kind = kind};
     return 0;
 }
 
@@ -85,13 +86,21 @@ static uint32_t abandon(struct walk *w) {
     return 0;
 }
 
+/* So that A2 is above 0 for an island and below 0 for a hole. */
+static void turn(struct totals *t, enum kind kind) {
+    if ((t->a2 < 0) == (kind == HOLE)) return;
+    *t = (struct totals){-t->a2, -t->x6, -t->y6, -t->xx12, -t->xy24, -t->yy12};
+}
+
 static uint32_t end(struct walk *w, struct sheet *s, struct totals *t) {
     if (impossible_walk(w) || impossible_sheet(s)) return 28;
     if (!w->is_open) return 21;
     if (w->count < 3) return 24;
-    if (s->count >= MOST_OUTLINES) return 25;
     *t = w->totals;
     add_edge(t, w->last_x, w->last_y, w->first_x, w->first_y);
+    if (t->a2 == 0) return 32;
+    if (s->count >= MOST_OUTLINES) return 25;
+    turn(t, w->kind);
     struct totals sum = s->totals;
     sum.a2 += t->a2;
     sum.x6 += t->x6;
@@ -108,7 +117,7 @@ static uint32_t end(struct walk *w, struct sheet *s, struct totals *t) {
 
 /* ---- the forms of a line */
 
-enum form { OTHER, BEGIN, END, ABANDON, POINT };
+enum form { OTHER, BEGIN, BEGIN_HOLE, END, ABANDON, POINT };
 
 /* The place past a number, or NULL. Signs and sizes of numbers cannot be foreseen, so what depends on them is reckoned without branches. */
 static inline const char *read_number(const char *p, int32_t *v) {
@@ -139,7 +148,13 @@ static inline enum form read_form(const char *p, int32_t *x, int32_t *y, const c
         if (*p != '\t' || !(p = read_number(p + 1, y))) return OTHER;
         f = POINT;
         break;
-    case 'B': f = BEGIN; break;
+    case 'B':
+        f = BEGIN;
+        if (p[0] == '\t' && p[1] == 'H') {
+            f = BEGIN_HOLE;
+            p += 2;
+        }
+        break;
     case 'E': f = END; break;
     case 'A': f = ABANDON; break;
     default: return OTHER;
@@ -218,7 +233,8 @@ int main(void) {
             struct totals t;
             switch (f) {
             case POINT: number = point(&w, x, y); break;
-            case BEGIN: number = begin(&w); break;
+            case BEGIN:
+            case BEGIN_HOLE: number = begin(&w, f == BEGIN_HOLE ? HOLE : ISLAND); break;
             case ABANDON: number = abandon(&w); break;
             case END: {
                 uint32_t count = w.count;

@@ -1,10 +1,10 @@
-//! The text program of document 01 in Rust: the same input, output and limits, with no proof. A read or a write that fails ends it without an S line.
+//! The text program of documents 01 and 02 in Rust: the same input, output and limits, with no proof. A read or a write that fails ends it without an S line.
 mod output;
 mod walk;
 
 use output::Output;
 use std::io::{self, Read};
-use walk::{Position, Sheet, Walk};
+use walk::{Kind, Position, Sheet, Walk};
 
 const CHUNK: usize = 65_536;
 /// So many newlines stand behind the bytes that were read: no form is longer, so each can be read as if all of it were there.
@@ -16,7 +16,7 @@ const MOST_BYTES: usize = 33_000_000;
 // ---- the forms of a line
 
 enum Form {
-    Begin,
+    Begin(Kind),
     End,
     Abandon,
     Point(Position),
@@ -66,7 +66,8 @@ fn read_form(text: &[u8]) -> Option<(Form, usize)> {
             let (y, y_size) = read_number(text[tab + 1..].first_chunk()?)?;
             (Form::Point(Position { x, y }), tab + 1 + y_size)
         }
-        b'B' => (Form::Begin, 1),
+        b'B' if text[1] == b'\t' && text[2] == b'H' => (Form::Begin(Kind::Hole), 3),
+        b'B' => (Form::Begin(Kind::Island), 1),
         b'E' => (Form::End, 1),
         b'A' => (Form::Abandon, 1),
         _ => return None,
@@ -127,7 +128,7 @@ fn main() -> io::Result<()> {
             at += size;
             let done = match form {
                 Some((Form::Point(p), _)) => walk.point(p),
-                Some((Form::Begin, _)) => walk.begin(),
+                Some((Form::Begin(kind), _)) => walk.begin(kind),
                 Some((Form::Abandon, _)) => walk.abandon(),
                 Some((Form::End, _)) => {
                     let points = walk.count;

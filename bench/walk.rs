@@ -29,9 +29,17 @@ pub struct Totals {
     yy12: i64,
 }
 
+#[derive(Clone, Copy, Default, PartialEq)]
+pub enum Kind {
+    #[default]
+    Island,
+    Hole,
+}
+
 #[derive(Clone, Copy, Default)]
 pub struct Walk {
     is_open: bool,
+    kind: Kind,
     pub count: u32,
     first: Position,
     last: Position,
@@ -65,6 +73,21 @@ impl Totals {
             xx12: self.xx12 + other.xx12,
             xy24: self.xy24 + other.xy24,
             yy12: self.yy12 + other.yy12,
+        }
+    }
+
+    /// So that A2 is above 0 for an island and below 0 for a hole.
+    fn turned(self, kind: Kind) -> Totals {
+        if (self.a2 < 0) == (kind == Kind::Hole) {
+            return self;
+        }
+        Totals {
+            a2: -self.a2,
+            x6: -self.x6,
+            y6: -self.y6,
+            xx12: -self.xx12,
+            xy24: -self.xy24,
+            yy12: -self.yy12,
         }
     }
 
@@ -122,7 +145,7 @@ impl Walk {
         self.totals.exceed(SHARES.map(|share| n * share))
     }
 
-    pub fn begin(&mut self) -> Result<(), u32> {
+    pub fn begin(&mut self, kind: Kind) -> Result<(), u32> {
         if self.impossible() {
             return Err(28);
         }
@@ -131,6 +154,7 @@ impl Walk {
         }
         *self = Walk {
             is_open: true,
+            kind,
             ..Walk::default()
         };
         Ok(())
@@ -182,11 +206,15 @@ impl Walk {
         if self.count < 3 {
             return Err(24);
         }
+        let mut totals = self.totals;
+        totals.add_edge(self.last, self.first);
+        if totals.a2 == 0 {
+            return Err(32);
+        }
         if sheet.count >= MOST_OUTLINES {
             return Err(25);
         }
-        let mut totals = self.totals;
-        totals.add_edge(self.last, self.first);
+        let totals = totals.turned(self.kind);
         let sum = sheet.totals.plus(totals);
         if sum.exceed([SHEET_LIMIT; 6]) {
             return Err(26);
