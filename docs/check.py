@@ -1,19 +1,21 @@
 """Recomputes what the pages say: python3 docs/check.py [--plots PROGRAM]. Prints what is wrong and exits 1.
 
-In NUMBERS.md, CASES.md and CASES-CELLS.md every figure must be one that is recomputed:
+In NUMBERS.md, CROSSINGS.md, CASES.md and CASES-CELLS.md every figure must be one that is recomputed:
 - a fenced block `input` (with a file's name, the file's own text) and the block `output` after it: what the program
   and the second program print;
 - a code span with =, ≤, < or ≈: its sides, by exact fractions. A decimal after = is exact; one after ≈ is rounded to
   the places that it has. Its names stand for the figures of the line that the last comment `figures:` names, of the
   last block or of an example file, and it does not end in a fraction; before the first such comment under a heading
-  it is a general formula, and is tried on every line of the page and on made-up outlines, regions and bits of masks;
+  it is a general formula, and is tried on every line of the page and on made-up outlines, rings, regions and bits of
+  masks. The figures of an O line and of the S line count each ring by its kind; an R line with 32 stands for the points
+  of the ring that it refuses, as the call on a whole list answers them;
 - a table after a comment `terms`, `map`, `edges`, `loops`, `test`, `trial`, `answers`, `ground`, `cells` or `regions`;
   a block `runs`, `mask` or `map`. A block `runs` that follows a block `mask` has the runs that the second program
   writes for it.
 A digit anywhere else is an error. A comment `crosses:`, `plain:` or `same:` says what the outlines of the lines that it
-names are. README.md: its example, its limits and its command for other units. REFUSALS.md: the numbers.
-ARCHITECTURE.md: every crate, above all that it rests on. CLAIMS*.md: see claims.py. The pictures are made again and
-compared.
+names are, `inside:` that the centre of the first lies inside the second. README.md: its example, its limits and its
+command for other units. REFUSALS.md: the numbers. ARCHITECTURE.md: every crate, above all that it rests on. CLAIMS*.md:
+see claims.py. The pictures are made again and compared.
 """
 import argparse
 import re
@@ -36,12 +38,12 @@ from crates import listed_crates  # noqa: E402
 from differences import expect, wrong  # noqa: E402
 from page import Page  # noqa: E402
 
-PRINTED_REFUSALS = [1, 9, 10, *range(21, 27)]
+PRINTED_REFUSALS = [1, 9, 10, *range(21, 27), 32]
 OTHER_REFUSALS = [*range(2, 9), 11, 27, 28, 31]
 LIMITS = {
     "a coordinate": f"-{figures.COORDINATE_LIMIT:,} to {figures.COORDINATE_LIMIT:,} decimetres: {figures.COORDINATE_LIMIT // 10} m from the peg, east, west, north and south",
     "points of an outline": f"{figures.LEAST_POINTS} to {figures.MOST_POINTS:,}",
-    "outlines of a sheet": f"at most {figures.MOST_OUTLINES}",
+    "outlines of a sheet": f"at most {figures.MOST_OUTLINES}, holes included",
     "each total of a sheet": "-10^18 to 10^18" if figures.TOTAL_LIMIT == 10 ** 18 else "",
     "a map's a, b, g, h": f"-{moves.COEFFICIENT_LIMIT} to {moves.COEFFICIENT_LIMIT}",
     "a map's e, f": f"-{moves.SHIFT_LIMIT:,} to {moves.SHIFT_LIMIT:,}",
@@ -82,11 +84,12 @@ def check_units(command):
     most = 10 * figures.COORDINATE_LIMIT
     given = [f"{'-' * (n < 0)}{abs(n) // 100}.{abs(n) % 100:02}\t0.74" for n in range(-most, most + 1)]
     wanted = [f"P\t{(n + 5) // 10}\t7" for n in range(-most, most + 1)]
-    lines = ["B", *given, "east north", "", "E"]
+    other = ["B\tH", "east north", "", "E"]
+    lines = ["B", *given, *other]
     command = command.replace("< METRES > FILE", "")
     for ending in ("\n", "\r\n"):
         printed = subprocess.run(["sh", "-c", command], input=ending.join(lines).encode(), stdout=subprocess.PIPE, check=True).stdout
-        expect(printed.decode().split("\n") == ["B", *wanted, "east north", "", "E", ""], "README.md", "the command for other units gives other lines")
+        expect(printed.decode().split("\n") == ["B", *wanted, *other, ""], "README.md", "the command for other units gives other lines")
 
 
 def check_refusals():
@@ -137,7 +140,7 @@ def main():
     parser = argparse.ArgumentParser(description="Recomputes what the pages say.")
     parser.add_argument("--plots", type=Path, default=ROOT / "target" / "bin" / "plots", help="the program to run")
     plots = parser.parse_args().plots.resolve()
-    for name in ("NUMBERS.md", "CASES.md", "CASES-CELLS.md"):
+    for name in ("NUMBERS.md", "CROSSINGS.md", "CASES.md", "CASES-CELLS.md"):
         Page(DOCS / name, plots).check()
     check_readme(plots)
     check_refusals()

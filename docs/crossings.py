@@ -18,6 +18,12 @@ def lies_on(c, a, b):
     return turn(a, b, c) == 0 and min(a[0], b[0]) <= c[0] <= max(a[0], b[0]) and min(a[1], b[1]) <= c[1] <= max(a[1], b[1])
 
 
+def lies_inside(place, loop):
+    """Whether a line due east from the place meets the loop an odd number of times."""
+    edges = zip(loop, loop[1:] + loop[:1])
+    return sum((a[1] <= place[1]) != (b[1] <= place[1]) and turn(a, b, place) * (b[1] - a[1]) > 0 for a, b in edges) % 2 == 1
+
+
 def kind(points):
     """`crosses` if two edges cross; `plain` if none have a point in common but the corner of neighbours; else `touches`."""
     edges = list(zip(points, points[1:] + points[:1]))
@@ -31,7 +37,7 @@ def kind(points):
 
 
 def warns(totals):
-    """The test of NUMBERS.md in whole numbers: 72 × A2 × (Mxx, Myy, Mxy) must be as for an outline that is plain."""
+    """The test of CROSSINGS.md in whole numbers: 72 × A2 × (Mxx, Myy, Mxy) must be as for an outline that is plain."""
     a2, x6, y6, xx12, xy24, yy12 = totals
     mxx, myy, mxy = 6 * a2 * xx12 - 4 * x6 * x6, 6 * a2 * yy12 - 4 * y6 * y6, 3 * a2 * xy24 - 4 * x6 * y6
     plain = a2 != 0 and a2 * xx12 > 0 and a2 * yy12 > 0 and mxx > 0 and myy > 0 and mxy * mxy < mxx * myy

@@ -2,7 +2,6 @@
 import random
 import re
 import subprocess
-from fractions import Fraction
 from pathlib import Path
 
 import crossings
@@ -11,6 +10,7 @@ import figures
 import moves
 import page_cells
 import page_masks
+import page_rings
 import pictures
 import text
 from differences import expect
@@ -18,7 +18,7 @@ from differences import expect
 ROOT = Path(__file__).resolve().parent.parent
 SEED = 7
 MADE_UP = 100
-ALLOWED = re.compile(r"\b(A2|X6|Y6|XX12|XY24|YY12|[Dd]ocument 0[12]|document 000|CR 2|[Rr]efusal (8|10|27|31))\b")
+ALLOWED = re.compile(r"\b(A2|X6|Y6|XX12|XY24|YY12|[Dd]ocument 0[12]|document 000|CR [23]|[Rr]efusal (8|10|22|27|31|32))\b")
 POINT = re.compile(r"\((-?\d+), (-?\d+)\)")
 # Of the tables that are recomputed in part: the cells of a row that are read as text.
 AS_TEXT = {"test": slice(1, None), "ground": slice(3, None), "regions": slice(1)}
@@ -26,45 +26,13 @@ AS_TEXT = {"test": slice(1, None), "ground": slice(3, None), "regions": slice(1)
 
 # Figures by name
 
-def outlines_of(given, printed):
-    """The points of each accepted outline: the lines that no R line names, in turn."""
-    refused = {int(line.split("\t")[1]) for line in printed.splitlines() if line.startswith("R")}
-    done, walk = [], []
-    for number, line in enumerate(given.splitlines(), 1):
-        if number in refused:
-            continue
-        if line == "E":
-            done.append(walk)
-        walk = [*walk, tuple(map(int, line.split("\t")[1:]))] if line.startswith("P") else []
-    return done
-
-
-def printed_figures(given, printed):
-    """For each O line and the S line, as `O 1` or `S`: the printed fields and the exact figures, by name."""
-    outlines = outlines_of(given, printed)
-    found = {}
-    for line in printed.splitlines():
-        letter, *fields = line.split("\t")
-        if letter == "R":
-            continue
-        label = f"O {fields[0]}" if letter == "O" else "S"
-        names = ("outline", "points") if letter == "O" else ("outlines",)
-        walked = [outlines[int(fields[0]) - 1]] if letter == "O" else outlines
-        found[label] = exact.outline_figures(walked) | {"of": walked} | {
-            name: Fraction(field) for name, field in zip((*names, *exact.TOTALS, "centre x", "centre y"), fields) if field != "-"}
-    return found
-
-
 def made_up():
-    """Figures of made-up outlines, edges, maps, regions and bits, by the second program and by exact integrals."""
+    """Figures of made-up outlines, rings, edges, maps, regions and bits, by the second program and by exact integrals."""
     chance = random.Random(SEED)
     cases = []
     for _ in range(MADE_UP):
         points = [(chance.randint(-20, 20), chance.randint(-20, 20)) for _ in range(chance.randint(3, 8))]
-        totals = figures.outline_totals(points)
-        number, x, y = figures.centre_of_totals(totals)
-        centre = {"centre x": x, "centre y": y} if number == 0 else {}
-        cases.append(exact.outline_figures([points]) | dict(zip(exact.TOTALS, totals)) | centre | {"of": [points]})
+        cases += [page_rings.list_figures(points), *page_rings.ring_figures(points, chance.random() < 0.5)]
         (x, y), (p, q) = points[:2]
         cases.append({"x": x, "y": y, "p": p, "q": q, "c": 2 * exact.integral(exact.INTEGRANDS["area"], [[(0, 0), (x, y), (p, q)]])})
         a, b, g, h = (chance.randint(-2, 2) for _ in range(4))
@@ -107,7 +75,7 @@ class Page:
                 expect(not name or (ROOT / name).read_text() == body, self.at(number), f"not the text of {name}")
             elif kind == "output":
                 self.output(number, given, body)
-                self.blocks[last] = self.examples[example] = printed_figures(given, body)
+                self.blocks[last] = self.examples[example] = page_rings.printed_figures(given, body)
                 self.general += self.blocks[last].values()
                 if affine is not None:
                     self.moved(number, affine, self.blocks[last])
@@ -155,7 +123,7 @@ class Page:
                 label, _, example = comment[2].partition(" of ")
                 now = (self.examples.get(example, {}) if example else block).get(label)
                 expect(now is not None, self.at(number), "the block has no such line")
-            elif comment and comment[1] in ("crosses", "plain", "same"):
+            elif comment and comment[1] in ("crosses", "plain", "same", "inside"):
                 self.outlines(number, comment[1], [block[label] for label in comment[2].split(", ")])
             elif comment:
                 table = [comment[1]]
@@ -172,10 +140,14 @@ class Page:
             self.spans(number, line, now)
 
     def outlines(self, number, claim, found):
-        """The named outlines cross themselves, or are plain, or have the same fields after their number."""
+        """The named outlines cross themselves, or are plain, or have the same fields after their number; or the centre of the
+        first lies inside the second."""
         kinds = [crossings.kind(each["of"][0]) for each in found]
         fields = [[each.get(name) for name in exact.PRINTED] for each in found]
-        right = fields.count(fields[0]) == len(fields) if claim == "same" else kinds.count(claim) == len(kinds)
+        if claim == "inside":
+            right = crossings.lies_inside((found[0]["exact x"], found[0]["exact y"]), found[1]["of"][0])
+        else:
+            right = fields.count(fields[0]) == len(fields) if claim == "same" else kinds.count(claim) == len(kinds)
         expect(right, self.at(number), f"not {claim}: {kinds}, {fields}")
 
     def spans(self, number, line, now):
@@ -259,8 +231,7 @@ class Page:
     def table_test(self, number, rows, _):
         """The page's test warns of an outline where the test of the trial does, of small ones too."""
         formulas = [span for row in rows[2:] for span in re.findall(r"`([^`]*)`", row[0])]
-        small = [exact.outline_figures([points]) | dict(zip(exact.TOTALS, figures.outline_totals(points))) | {"of": [points]}
-                 for points in crossings.walks_on_grid(4, 3)]
+        small = [page_rings.list_figures(points) for points in crossings.walks_on_grid(4, 3)]
         for known in [*self.general, *small]:
             if "A2" in known:
                 passed = known["A2"] != 0 and all(exact.holds(formula, known) for formula in formulas)

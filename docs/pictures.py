@@ -1,29 +1,35 @@
 """The pictures of the pages, from the example files: python3 docs/pictures.py writes docs/NAME.svg for each.
 
-A loop that is walked anticlockwise counts as positive and is drawn light; one that is walked clockwise counts as
-negative and is drawn dark.
+A loop that counts as positive is drawn light, one that counts as negative dark: by the kind of its ring or, where the
+ring has no area, by the direction in which the loop is walked. The arrows go as the ring is walked.
 """
 import itertools
 from fractions import Fraction
 from pathlib import Path
 
-from crossings import turn
+from crossings import lies_inside, turn
+from rings import as_counted, rings_of
 
 DOCS = Path(__file__).resolve().parent
 EXAMPLES = DOCS.parent / "examples"
-# By its name, the example file that a picture is of, and which of the file's outlines.
-PICTURES = {"rectangle": ("rectangle", 0), "figure-eight": ("figure-eight", 0), "crossing-twin": ("twins", 0), "plain-twin": ("twins", 1)}
+# By its name, the example file that a picture is of, and which of the file's rings.
+PICTURES = {"rectangle": ("rectangle", [0]), "pond": ("pond", [0, 1]), "figure-eight": ("figure-eight", [0]),
+            "crossing-twin": ("twins", [0]), "plain-twin": ("twins", [1])}
 WIDTH = 400
 MARGIN = 76
 HALO = 'stroke="#ffffff" stroke-width="3" stroke-opacity="0.7" paint-order="stroke"'
 POSITIVE, NEGATIVE, LINE, GRID, TEXT = "#cfe8cf", "#e8b4a8", "#1f3d1f", "#dddddd", "#222222"
 
 
-def points_of(name, place):
-    """The points of one outline of an example file."""
-    outline = (EXAMPLES / f"{name}.txt").read_text().split("B\n")[place + 1]
-    lines = (line.split("\t") for line in outline.splitlines())
-    return [(int(line[1]), int(line[2])) for line in lines if line[0] == "P"]
+def drawn_rings(name, places):
+    """Some of the rings of an example file."""
+    rings = list(rings_of((EXAMPLES / f"{name}.txt").read_text(), {}).values())
+    return [rings[place] for place in places]
+
+
+def edges_of(points):
+    """From each point to the next, the closing edge last."""
+    return list(zip(points, points[1:] + points[:1]))
 
 
 def crossing(a, b, c, d):
@@ -40,7 +46,7 @@ def crossing(a, b, c, d):
 
 def loops_of(points):
     """The outline taken apart at its crossings: each loop is closed when the walk comes to a crossing again."""
-    edges = list(zip(points, points[1:] + points[:1]))
+    edges = edges_of(points)
     walk = []
     for a, b in edges:
         walk += [a, *(place for _, place in sorted(filter(None, (crossing(a, b, c, d) for c, d in edges))))]
@@ -56,25 +62,26 @@ def loops_of(points):
 
 def signed_area(points):
     """Half the sum of the cross products."""
-    return Fraction(sum(x * q - p * y for (x, y), (p, q) in zip(points, points[1:] + points[:1])), 2)
+    return Fraction(sum(x * q - p * y for (x, y), (p, q) in edges_of(points)), 2)
 
 
-def roomy_place(loop):
-    """Where a label has room: of the mean of the corners and the middles between two, that inside and farthest from the edges."""
-    edges = list(zip(loop, loop[1:] + loop[:1]))
+def roomy_place(loop, holes):
+    """Where a label has room: of the mean of the corners and the middles between two, those of holes too, that inside the
+    loop, outside its holes and farthest from the edges."""
+    edges = [edge for each in (loop, *holes) for edge in edges_of(each)]
 
     def room(place):
-        inside = sum((a[1] <= place[1]) != (b[1] <= place[1]) and turn(a, b, place) * (b[1] - a[1]) > 0 for a, b in edges) % 2
+        inside = lies_inside(place, loop) and not any(lies_inside(place, hole) for hole in holes)
         return inside * min(Fraction(turn(a, b, place) ** 2, (b[0] - a[0]) ** 2 + (b[1] - a[1]) ** 2) for a, b in edges)
 
-    groups = [loop, *itertools.combinations(loop, 2)]
+    groups = [loop, *itertools.combinations(itertools.chain(loop, *holes), 2)]
     return max((tuple(Fraction(sum(place[i] for place in group), len(group)) for i in (0, 1)) for group in groups), key=room)
 
 
 def picture(name):
     """The picture as SVG text."""
-    points = points_of(*PICTURES[name])
-    xs, ys = [0, *(x for x, _ in points)], [0, *(y for _, y in points)]
+    rings = drawn_rings(*PICTURES[name])
+    xs, ys = ([0, *(point[i] for ring in rings for point in ring.points)] for i in (0, 1))
     step = Fraction(WIDTH - 2 * MARGIN, max(max(xs) - min(xs), max(ys) - min(ys)))
     height = float((max(ys) - min(ys)) * step + 2 * MARGIN)
 
@@ -98,24 +105,30 @@ def picture(name):
         drawn.append(line((x, min(ys)), (x, max(ys)), f'stroke="{GRID}"'))
     for y in range(min(ys), max(ys) + 1):
         drawn.append(line((min(xs), y), (max(xs), y), f'stroke="{GRID}"'))
-    loops = loops_of(points)
-    for loop in loops:
+    loops = [loops_of(as_counted(ring)) for ring in rings]
+    holes = [loop for ring, of_ring in zip(rings, loops) if ring.is_hole for loop in of_ring]
+    for loop in itertools.chain(*loops):
         corners = " ".join(",".join(at(place)) for place in loop)
         drawn.append(f'<polygon points="{corners}" fill="{POSITIVE if signed_area(loop) > 0 else NEGATIVE}"/>')
-    for a, b in zip(points, points[1:] + points[:1]):
+    for a, b in itertools.chain(*(edges_of(ring.points) for ring in rings)):
         halfway = ((a[0] + b[0]) / Fraction(2), (a[1] + b[1]) / Fraction(2))
         short = tuple(s + (t - s) * Fraction(3, 5) for s, t in zip(a, halfway))
         drawn += [line(a, b, f'stroke="{LINE}" stroke-width="2"'), line(a, short, f'stroke="{LINE}" stroke-width="2" marker-end="url(#arrow)"')]
-    for loop in loops:
-        area = signed_area(loop)
-        drawn.append(text(roomy_place(loop), f"{'+' if area > 0 else '−'}{float(abs(area)):g} dm²"))
-    for number, (x, y) in enumerate(points, 1):
-        px, py = at((x, y))
-        drawn.append(f'<circle cx="{px}" cy="{py}" r="3.5" fill="{LINE}"/>')
-        # A point's label stands away from the middle between its neighbours.
-        before, after = points[number - 2], points[number % len(points)]
-        east, north = ((2 * own > s + t) - (2 * own < s + t) for own, s, t in zip((x, y), before, after))
-        drawn.append(text((x, y), f"{number}: ({x}, {y})", 10 * east, 4 - 16 * north))
+    for ring, of_ring in zip(rings, loops):
+        for loop in of_ring:
+            area = signed_area(loop)
+            place = roomy_place(loop, [] if ring.is_hole else holes)
+            drawn.append(text(place, f"{'+' if area > 0 else '−'}{float(abs(area)):g} dm²"))
+    for ring in rings:
+        for number, (x, y) in enumerate(ring.points, 1):
+            px, py = at((x, y))
+            drawn.append(f'<circle cx="{px}" cy="{py}" r="3.5" fill="{LINE}"/>')
+            # A point's label stands away from the middle between its neighbours.
+            before, after = ring.points[number - 2], ring.points[number % len(ring.points)]
+            east, north = ((2 * own > s + t) - (2 * own < s + t) for own, s, t in zip((x, y), before, after))
+            # Inside an island there is room for the number alone.
+            words, right, up = (f"{number}", 8, 10) if ring.is_hole else (f"{number}: ({x}, {y})", 10, 16)
+            drawn.append(text((x, y), words, right * east, 4 - up * north))
     px, py = map(float, at((0, 0)))
     drawn.append(f'<rect x="{px - 7:.1f}" y="{py - 7:.1f}" width="14" height="14" fill="none" stroke="{LINE}"/>')
     drawn.append(text(((max(xs) + min(xs)) / Fraction(2), min(ys)), "x east, y north, in decimetres from the peg (the small square)", 0, 50, 11))

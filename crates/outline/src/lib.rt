@@ -54,13 +54,13 @@ pub enum Kind {
     Hole,
 }
 
-// A walk that its caller holds: the open polyline walked so far, marked open or closed, and the kind of its ring.
+// A walk that its caller holds: the open polyline walked so far, the kind of its ring, and whether it is open. The text program is fastest with the fields in this order.
 pub struct Walk {
-    pub is_open: bool,
-    pub kind: Kind,
     pub count: u32,
     pub first: Position,
     pub last: Position,
+    pub kind: Kind,
+    pub is_open: bool,
     pub totals: Totals,
 }
 

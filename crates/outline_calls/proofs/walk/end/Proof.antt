@@ -4,9 +4,10 @@ use mathlib.Core.Bool.{true, false, _||_}
 use native.Mathlib.Omega.{arith}
 use borrow.Author.Needs.{needs}
 use borrow.Author.Tests.{not-false, lt-ltb, le-ltb, le-leb}
+use mir.Syntax.{w64}
+use mir.Val.{SFits}
 use mir.Facts.{toZ-ofZ}
 use Rattle.integers.proofs.Flags.{tells, or-left, or-right}
-use Rattle.limits.proofs.Fields.{TotalsFit}
 use Rattle.limits.proofs.ZeroTest.{zero-size, nonzero-size}
 use Rattle.outline.specs.WalkCalls.{closedTotals, zeroArea, impossibleWalk, impossibleSheet, endCall}
 use Rattle.outline_calls.proofs.walk.end.Statement.{statement}
@@ -81,8 +82,8 @@ is-32 : (c : tie.Then4) → (let closed = c .before .before .before in zeroArea 
 unfolding zeroArea
 is-32 c =
     let closed = c .before .before .before in
-    let fits : TotalsFit (closed .closed-totals .result) = search needs in
-    tells (ap zeroArea (closed .closed-totals .ensures)) (zero-size (closed .closed-totals .result .a2) (toZ-ofZ (fits .a2)) (c .if4 .taken))
+    let fits : SFits w64 (closed .closed-totals .result .a2) = search needs in
+    tells (ap zeroArea (closed .closed-totals .ensures)) (zero-size (closed .closed-totals .result .a2) (toZ-ofZ fits) (c .if4 .taken))
 
 not-32 : (c : tie.Else4) → (let closed = c .before .before .before in zeroArea (closedTotals (start (closed .before) .args .w)) ≡ false)
 unfolding zeroArea

@@ -41,7 +41,10 @@ end-requires-2 : tie.Need-end-requires-2 Inv-loop μ-loop
 end-requires-2 c κs = search needs
 
 add-done : tie.Need-add-done Inv-loop μ-loop
-add-done c = omega arith
+add-done c =
+    let looped = c .before .before .before in
+    let s = looped .before .before .before .before .before in
+    omega (arith, s .fits .earlier, c .before .before .loop-test)
 
 loop-less : tie.Need-loop-less Inv-loop μ-loop
 loop-less c = omega arith
