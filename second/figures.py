@@ -168,7 +168,7 @@ def negated(totals):
 
 
 def turned(kind, totals):
-    """CR 3: negated if needed, so that A2 is above 0 for an island and below 0 for a hole."""
+    """CR 3: the totals as added.  An island's A2 is above 0, a hole's below; else all six change sign."""
     has_wrong_sign = totals.a2 > 0 if kind is Kind.HOLE else totals.a2 < 0
     return negated(totals) if has_wrong_sign else totals
 

@@ -36,29 +36,40 @@ pub record Ends (w : Walk) (s : Sheet) : Type 0 where
   pub room : s .count < 64
   pub within : exceed totalLimits (plus (s .totals) (addedTotals w)) ≡ false
 
+-- The number of a refused end: 32 only for a ring of zero area.
+pub record EndRefusal (w : Walk) (s : Sheet) (n : ℕ) : Type 0 where
+  pub refusal : Refusal (impossibleWalk w || impossibleSheet s) n
+  pub only-32 : n ≡ 32 → Closable w × (zeroArea (closedTotals w) ≡ true)
+
 pub data EndCase (w : Walk) (s : Sheet) : EndOutcome → Type 0 where
-  refused : (n : ℕ) → Refusal (impossibleWalk w || impossibleSheet s) n → EndCase w s (refusedEnd n w s)
+  refused : (n : ℕ) → EndRefusal w s n → EndCase w s (refusedEnd n w s)
   accepted : Ends w s → EndCase w s (endedWith s (addedTotals w))
 
 pub end-case : (w : Walk) (s : Sheet) → EndCase w s (endCall w s)
 unfolding endCall
 end-case w s = go (impossibleWalk w || impossibleSheet s) (not (w .is_open)) (ltb (w .count) 3) (zeroArea (closedTotals w)) (leb 64 (s .count)) (exceed totalLimits (plus (s .totals) (addedTotals w))) refl refl refl refl refl refl
   where
+    closable : not (w .is_open) ≡ false → ltb (w .count) 3 ≡ false → Closable w
+    closable e f = record { is-open = not-false (w .is_open) e; enough = ltb-false (w .count) 3 f }
+
+    plain : (n : ℕ) → eqb n 32 ≡ false → Refusal (impossibleWalk w || impossibleSheet s) n → EndCase w s (refusedEnd n w s)
+    plain n e r = refused n (record { refusal = r; only-32 = λ h. absurd (eqb-false n 32 e h) })
+
     go : (a b c d f g : Bool) → (impossibleWalk w || impossibleSheet s) ≡ a → not (w .is_open) ≡ b → ltb (w .count) 3 ≡ c → zeroArea (closedTotals w) ≡ d → leb 64 (s .count) ≡ f → exceed totalLimits (plus (s .totals) (addedTotals w)) ≡ g → EndCase w s (cond a (refusedEnd 28 w s) (cond b (refusedEnd 21 w s) (cond c (refusedEnd 24 w s) (cond d (refusedEnd 32 w s) (cond f (refusedEnd 25 w s) (cond g (refusedEnd 26 w s) (endedWith s (addedTotals w))))))))
-    go true b c d f g ea eb ec ed ef eg = refused 28 (number-28 ea)
-    go false true c d f g ea eb ec ed ef eg = refused 21 (other 21 refl refl)
-    go false false true d f g ea eb ec ed ef eg = refused 24 (other 24 refl refl)
-    go false false false true f g ea eb ec ed ef eg = refused 32 (other 32 refl refl)
-    go false false false false true g ea eb ec ed ef eg = refused 25 (other 25 refl refl)
-    go false false false false false true ea eb ec ed ef eg = refused 26 (other 26 refl refl)
-    go false false false false false false ea eb ec ed ef eg = accepted (record { closable = record { is-open = not-false (w .is_open) eb; enough = ltb-false (w .count) 3 ec }; area = ed; room = leb-false 64 (s .count) ef; within = eg })
+    go true b c d f g ea eb ec ed ef eg = plain 28 refl (number-28 ea)
+    go false true c d f g ea eb ec ed ef eg = plain 21 refl (other 21 refl refl)
+    go false false true d f g ea eb ec ed ef eg = plain 24 refl (other 24 refl refl)
+    go false false false true f g ea eb ec ed ef eg = refused 32 (record { refusal = other 32 refl refl; only-32 = λ h. (closable eb ec, ed) })
+    go false false false false true g ea eb ec ed ef eg = plain 25 refl (other 25 refl refl)
+    go false false false false false true ea eb ec ed ef eg = plain 26 refl (other 26 refl refl)
+    go false false false false false false ea eb ec ed ef eg = accepted (record { closable = closable eb ec; area = ed; room = leb-false 64 (s .count) ef; within = eg })
 
 -- An accepted end: why it is accepted, and all that it answers and leaves.
 pub end-accepted : (w : Walk) (s : Sheet) → endCall w s .number ≡ 0 → Ends w s × (endCall w s ≡ endedWith s (addedTotals w))
 end-accepted w s = go (endCall w s) (end-case w s)
   where
     go : (e : EndOutcome) → EndCase w s e → e .number ≡ 0 → Ends w s × (e ≡ endedWith s (addedTotals w))
-    go e (refused n h) z = absurd (h .not-0 z)
+    go e (refused n h) z = absurd (h .refusal .not-0 z)
     go e (accepted h) z = (h, refl)
 
 -- ---- every call, by its number and the walk that it leaves
@@ -92,7 +103,7 @@ call-case w (point p) = go (impossibleWalk w) (not (w .is_open)) (outside p) (le
 call-case w (end s) = go (endCall w s) (end-case w s)
   where
     go : (e : EndOutcome) → EndCase w s e → CallCase w (end s) (e .number) (e .walk)
-    go e (refused n r) = refused n r
+    go e (refused n r) = refused n (r .refusal)
     go e (accepted k) = accepted (ends s k)
 call-case w abandon = go (impossibleWalk w) (not (w .is_open)) refl refl
   where

@@ -1,4 +1,4 @@
--- Corner cases of document 01's rules for lists, walks and sheets, each by computation from the definitions.
+-- Corner cases of the rules for lists, walks and sheets of document 01, and of document 02, CR 3, each by computation from the definitions.
 use mathlib.Core.Path.{_≡_, refl}
 use mathlib.Core.Bool.{true, false}
 use mathlib.Core.List.{[], _∷_, map}
@@ -95,11 +95,13 @@ record Left : Type 0 where
   point : pointCall (handed 1) (at (pos 2) (pos 3)) ≡ record { number = 0; walk = openWalk Island 2 (at (pos 1) (pos 2)) (at (pos 2) (pos 3)) (record { a2 = pos 14; x6 = pos 99; y6 = pos 108; xx12 = pos 927; xy24 = pos 1971; yy12 = pos 1053 }) }
   -- the edge from (9,9) to (1,2) more
   end : endCall (handed 3) (sheetOf 7 (area 2)) ≡ record { number = 0; totals = record { a2 = pos 14; x6 = pos 90; y6 = pos 99; xx12 = pos 819; xy24 = pos 1737; yy12 = pos 927 }; walk = closed; sheet = sheetOf 8 (record { a2 = pos 16; x6 = pos 90; y6 = pos 99; xx12 = pos 819; xy24 = pos 1737; yy12 = pos 927 }) }
+  -- the same as a hole: all six signs are turned, and the closed walk is an island
+  hole-end : endCall (openWalk Hole 3 (at (pos 1) (pos 2)) (at (pos 9) (pos 9)) (area 5)) (sheetOf 7 (area 2)) ≡ record { number = 0; totals = record { a2 = negsuc 13; x6 = negsuc 89; y6 = negsuc 98; xx12 = negsuc 818; xy24 = negsuc 1736; yy12 = negsuc 926 }; walk = record { is_open = false; kind = Island; count = 0; first = at (pos 0) (pos 0); last = at (pos 0) (pos 0); totals = area 0 }; sheet = sheetOf 8 (record { a2 = negsuc 11; x6 = negsuc 89; y6 = negsuc 98; xx12 = negsuc 818; xy24 = negsuc 1736; yy12 = negsuc 926 }) }
   abandon : abandonCall (handed 3) ≡ record { number = 0; walk = closed }
 
 left : Left
 unfolding over exceed outside extended hasSign turned zeroArea impossibleWalk impossibleSheet pointCall endCall abandonCall
-left = record { point = refl; end = refl; abandon = refl }
+left = record { point = refl; end = refl; hole-end = refl; abandon = refl }
 
 -- ---- walks handed in that no calls have made
 

@@ -1,25 +1,23 @@
 -- Demand 1: whatever the number, a call that is not accepted answers zeros and hands walk and sheet back as they came. And 28 is the answer for exactly the
 -- walks and sheets that it refuses.
 use mathlib.Core.Path.{_≡_, refl, sym, _∙_}
-use mathlib.Core.Bool.{Bool, true, false, not, _||_, cond, or-false}
+use mathlib.Core.Bool.{Bool, true, false, _||_, cond, or-false}
 use mathlib.Core.List.{List}
 use mathlib.Core.Logic.{_≢_}
 use Prim.Native.Nat.{ℕ}
 use native.Mathlib.Omega.{arith}
-use lib.Dec.{leb, ltb, eqb}
 use lib.IntN.{ℤ}
-use borrow.Author.Tests.{eqb-false, le-ltb, ltb-false, not-false}
+use borrow.Author.Tests.{eqb-false, le-ltb}
 use Rattle.outline.specs.declared.Totals.{Totals}
 use Rattle.outline.specs.declared.AffineMap.{AffineMap}
 use Rattle.outline.specs.declared.Walk.{Walk}
 use Rattle.outline.specs.declared.Sheet.{Sheet}
-use Rattle.outline.specs.EdgeSums.{outlineTotals, plus, zeros, exceed, outlineBounds}
+use Rattle.outline.specs.EdgeSums.{outlineTotals, zeros, exceed, outlineBounds}
 use Rattle.outline.specs.ListCall.{accepted, refused, points, anyOutside, wrongLength, listCall}
 use Rattle.outline.specs.MapCall.{disallowed, mapped, totalLimits, mapCall}
-use Rattle.outline.specs.WalkCalls.{closedTotals, addedTotals, zeroArea, impossibleWalk, impossibleSheet, EndOutcome, refusedEnd, beginCall, pointCall, endCall, abandonCall}
+use Rattle.outline.specs.WalkCalls.{closedTotals, zeroArea, impossibleWalk, impossibleSheet, EndOutcome, refusedEnd, beginCall, pointCall, endCall, abandonCall}
 use Rattle.outline.specs.CallLists.{Call, begin, point, end, abandon, numberOf, walkAfter, impossibleSheetIn}
 use Rattle.outline.specs.WalkedOutline.{Closable}
-use Rattle.integers.proofs.Cases.{by-cond}
 use Rattle.integers.proofs.Flags.{neither}
 use Rattle.outline.proofs.CallCases as Case
 
@@ -108,17 +106,8 @@ end-32 w s e f c z = rw (e, f, c .is-open, le-ltb (w .count) 3 (c .enough), z)
 
 -- and no other is.
 pub only-32 : (w : Walk) (s : Sheet) → endCall w s .number ≡ 32 → Closable w × (zeroArea (closedTotals w) ≡ true)
-unfolding endCall
-only-32 w s =
-    by-cond Explained (impossibleWalk w || impossibleSheet s) (λ _. other 28 refl) (λ _.
-    by-cond Explained (not (w .is_open)) (λ _. other 21 refl) (λ is-open.
-    by-cond Explained (ltb (w .count) 3) (λ _. other 24 refl) (λ enough.
-    by-cond Explained (zeroArea (closedTotals w)) (λ zero _. (record { is-open = not-false (w .is_open) is-open; enough = ltb-false (w .count) 3 enough }, zero)) (λ _.
-    by-cond Explained (leb 64 (s .count)) (λ _. other 25 refl) (λ _.
-    by-cond Explained (exceed totalLimits (plus (s .totals) (addedTotals w))) (λ _. other 26 refl) (λ _. other 0 refl))))))
+only-32 w s = go (endCall w s) (Case.end-case w s)
   where
-    Explained : EndOutcome → Type 0
-    Explained e = e .number ≡ 32 → Closable w × (zeroArea (closedTotals w) ≡ true)
-
-    other : (n : ℕ) → eqb n 32 ≡ false → n ≡ 32 → Closable w × (zeroArea (closedTotals w) ≡ true)
-    other n e h = absurd (eqb-false n 32 e h)
+    go : (e : EndOutcome) → Case.EndCase w s e → e .number ≡ 32 → Closable w × (zeroArea (closedTotals w) ≡ true)
+    go e (Case.refused k r) h = r .only-32 h
+    go e (Case.accepted k) h = absurd (eqb-false 0 32 refl h)

@@ -6,6 +6,7 @@ use Prim.Native.Nat.{ℕ}
 use mathlib.Core.Logic.{_≢_}
 use native.Mathlib.Omega.{arith}
 use lib.IntN.{ℤ, pos, negsuc, natAbs}
+use lib.Signed.{ltZ}
 use Rattle.outline.specs.declared.Kind.{Kind}
 use Rattle.outline.specs.declared.Kind.the-variants.{Island, Hole}
 use Rattle.outline.specs.declared.Totals.{Totals}
@@ -20,7 +21,7 @@ use Rattle.outline.specs.WalkCalls.{closed, sheetOf, extended, closedTot
 use Rattle.outline.specs.CallLists.{begin, point, end, abandon, numberOf, walkAfter, Ring, ringWith, next, after, from, walkOf, Walking, reached}
 use Rattle.outline.specs.PiecesAddUp.{AddUpMoved}
 use Rattle.outline.specs.WalkedOutline.{Closable}
-use Rattle.outline.specs.EveryOutline.{answers, callsOf, Walkable, Room, endedWith, Ending}
+use Rattle.outline.specs.EveryOutline.{answers, ringCalls, Walkable, Room, endedWith, Ending}
 use Rattle.outline.specs.Rings.{SameEnd}
 use Rattle.outline.proofs.WorkedInputs.{at, leftover}
 use Rattle.outline.proofs.PiecesUses.{pentagon, pentagonTotals, pentagon-taken}
@@ -70,6 +71,9 @@ eight-refused : endCall (reached eight .walk) (sheetOf 64 zeros) .number ≡ 32
 unfolding impossibleSheet exceed over
 eight-refused = walked-outline eight .zero-area eight-closable (sheetOf 64 zeros) refl (ap (λ t. t .a2) eight-computed)
 
+without-area : (k : Walking) → Closable (reached k .walk) → (s : Sheet) → impossibleSheet s ≡ false → outlineTotals (reached k .ring .points) .a2 ≡ pos 0 → endCall (reached k .walk) s .number ≡ 32
+without-area k = walked-outline k .zero-area
+
 only-without-area : (k : Walking) (s : Sheet) → endCall (reached k .walk) s .number ≡ 32 → outlineTotals (reached k .ring .points) .a2 ≡ pos 0
 only-without-area k s = walked-outline k .only-zero-area s
 
@@ -107,10 +111,19 @@ same-totals = same-end lastPlace .totals
 same-sheet : endCall (reached first .walk) lastPlace .sheet ≡ endCall (reached back .walk) lastPlace .sheet
 same-sheet = same-end lastPlace .sheet
 
+-- Any two such walks, on any sheet.
+any-way : (first second : Walking) → reached first .walk .is_open ≡ true → reached second .walk .is_open ≡ true → reached second .ring .kind ≡ reached first .ring .kind → (start : ℕ) (direction : Direction) → reached second .ring .points ≡ startAt start (walked direction (reached first .ring .points)) → (s : Sheet) → SameEnd (endCall (reached first .walk) s) (endCall (reached second .walk) s)
+any-way first second open-first open-second kind start direction same = walked-back first open-first second open-second kind start direction same
+
 -- ---- the sign of an area, of any walk on any sheet
 
-signed : (w : Walk) (s : Sheet) → endCall w s .number ≡ 0 → hasSign (w .kind) (endCall w s .totals .a2) ≡ true
-signed = sign-by-kind
+above : (w : Walk) (s : Sheet) → endCall w s .number ≡ 0 → w .kind ≡ Island → ltZ (pos 0) (endCall w s .totals .a2) ≡ true
+unfolding hasSign
+above w s z e = ap (λ k. hasSign k (endCall w s .totals .a2)) (sym e) ∙ sign-by-kind w s z
+
+below : (w : Walk) (s : Sheet) → endCall w s .number ≡ 0 → w .kind ≡ Hole → ltZ (endCall w s .totals .a2) (pos 0) ≡ true
+unfolding hasSign
+below w s z e = ap (λ k. hasSign k (endCall w s .totals .a2)) (sym e) ∙ sign-by-kind w s z
 
 -- ---- the pentagon can be walked as either kind, also from the walk with leftover fields, and into the last place of a sheet
 
@@ -120,7 +133,7 @@ ringAs k = record { kind = k; points = points pentagon }
 pentagon-as : (k : Kind) → Walkable leftover (ringAs k) × Ending (ringAs k) pentagonTotals
 pentagon-as k = every-outline pentagon pentagonTotals pentagon-taken k leftover refl
 
-none-refused : (k : Kind) (n : ℕ) → List·Memᴰ n (answers leftover (callsOf (ringAs k))) → n ≡ 0
+none-refused : (k : Kind) (n : ℕ) → List·Memᴰ n (answers leftover (ringCalls (ringAs k))) → n ≡ 0
 none-refused k = pentagon-as k .0 .none-refused
 
 taken : (k : Kind) → after (from leftover) (begin k ∷ map point (points pentagon)) .ring ≡ ringAs k
@@ -134,7 +147,7 @@ pentagon-ended : endCall (after (from leftover) (begin Island ∷ map point (poi
 unfolding hasSign turned
 pentagon-ended = ap (λ w. endCall w lastPlace) (pentagon-as Island .0 .walk) ∙ pentagon-as Island .1 .accepted (λ e. omega (arith, ap natAbs e)) lastPlace last-place
 
--- Every list that the list call accepts can be walked as a ring of either kind. If it has an area, every sheet with room then has its totals more, as they count;
+-- Every list that the list call accepts can be walked as a ring of either kind. If it has an area, every sheet with room then has its totals more, as added;
 walked-onto : (zs : List ℤ) (t : Totals) → listCall zs ≡ accepted t → (k : Kind) (w : Walk) → w .is_open ≡ false → t .a2 ≢ pos 0 → (s : Sheet) → Room s (turned k t) → endCall (after (from w) (begin k ∷ map point (points zs)) .walk) s ≡ endedWith s (turned k t)
 walked-onto zs t taken k w h area s room = let (walkable, ending) = every-outline zs t taken k w h in ap (λ w. endCall w s) (walkable .walk) ∙ ending .accepted area s room
 

@@ -31,7 +31,7 @@ sign-by-kind w s z = let (h, e) = end-accepted w s z in ap (λ e. hasSign (w .ki
 
 -- ---- the other way
 
--- Two walks of as many points; with 3 or more, both of zero area or neither; and where they have an area, with the same totals as they count.
+-- Two walks of as many points; with 3 or more, both of zero area or neither; and where they have an area, with the same totals as added.
 record Alike (w v : Walk) : Type 0 where
   count : w .count ≡ v .count
   area : 3 ≤ w .count → zeroArea (closedTotals w) ≡ zeroArea (closedTotals v)

@@ -39,7 +39,7 @@ grown [] s m = record { count = omega arith; totals = sym (plus-zeros (s .totals
 grown (w ∷ ws) s m = go (λ r k. grown ws r k) (endCall w s) (Case.end-case w s)
   where
     go : ((r : Sheet) → impossibleSheet r ≡ false → Grown r (addedBy r ws) (sheetAfter r ws)) → (e : EndOutcome) → Case.EndCase w s e → Grown s (cond (eqb (e .number) 0) (e .totals ∷ addedBy (e .sheet) ws) (addedBy (e .sheet) ws)) (sheetAfter (e .sheet) ws)
-    go rest e (Case.refused n k) = rw (ne-eqb n 0 (k .not-0)) (rest s m)
+    go rest e (Case.refused n k) = rw (ne-eqb n 0 (k .refusal .not-0)) (rest s m)
     go rest e (Case.accepted k) =
         let added = sheetWith s (addedTotals w) in
         let possible = neither (le-ltb 64 (s .count + 1) (omega (arith, k .room))) (k .within) in

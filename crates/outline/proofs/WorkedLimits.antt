@@ -1,4 +1,4 @@
--- Both sides of every limit of document 01 for lists, walks, sheets and maps, by computation from the definitions.
+-- Both sides of every limit of document 01 for lists, walks, sheets and maps, and of document 02's 32, by computation from the definitions.
 use mathlib.Core.Path.{_≡_, refl}
 use mathlib.Core.List.{List, [], _∷_, _++_, map}
 use mathlib.Core.Bool.{false}
@@ -78,10 +78,13 @@ lowered ts = map (λ t. endCall (openWalk Hole 3 origin origin (negated t)) (she
 record Filled : Type 0 where
   up : raised (withArea 1 ++ withArea 2) ≡ replicate 6 0 ++ replicate 6 26
   down : lowered (withArea 1 ++ withArea 2) ≡ replicate 6 0 ++ replicate 6 26
+  -- walked the other way
+  up-again : raised (map negated (withArea 1 ++ withArea 2)) ≡ replicate 6 0 ++ replicate 6 26
+  down-again : lowered (map negated (withArea 1 ++ withArea 2)) ≡ replicate 6 0 ++ replicate 6 26
 
 filled : Filled
 unfolding over exceed outside hasSign turned zeroArea impossibleWalk impossibleSheet endCall
-filled = record { up = refl; down = refl }
+filled = record { up = refl; down = refl; up-again = refl; down-again = refl }
 
 -- The closing edge, from (0,1) to (1,0), adds -1 to each total: 26 looks at the sums with it. Each total fills the sheet's, and none has room for 1 more.
 with-closing-edge : map (λ t. endCall (openWalk Island 3 (at (pos 1) (pos 0)) (at (pos 0) (pos 1)) (plus (allTotals (pos 2)) t)) (sheetOf 0 (allTotals (pos 999_999_999_999_999_999))) .number) (zeros ∷ eachAlone pos (allSizes 1)) ≡ 0 ∷ replicate 6 26

@@ -1,4 +1,4 @@
--- Document 01's orders of refusals for lists, maps, walks and sheets, by computation: for each two refusals of a call that one input can meet, such an input,
+-- The orders of refusals for lists, maps, walks and sheets, document 02's 32 among them, by computation: for each two refusals of a call that one input can meet, such an input,
 -- and the one that comes first. (28 looks at open walks only, so that 28 and 21 meet in end alone, for its sheet.)
 use mathlib.Core.Path.{_≡_, refl}
 use mathlib.Core.List.{[], _∷_, map}

@@ -1,6 +1,7 @@
--- Document 02, CR 3, by computation from the definitions: both kinds walked both ways, what a refusal with 32 leaves, and 26 by the totals as they count.
+-- Document 02, CR 3, by computation from the definitions: both kinds walked both ways, what a refusal with 32 leaves, and 26 by the totals as added.
 use mathlib.Core.Path.{_≡_, refl}
-use mathlib.Core.List.{List, [], _∷_, map, reverse}
+use mathlib.Core.Bool.{true, false}
+use mathlib.Core.List.{List, [], _∷_, _++_, map, reverse}
 use lib.IntN.{pos, negsuc}
 use Rattle.outline.specs.declared.Kind.{Kind}
 use Rattle.outline.specs.declared.Kind.the-variants.{Island, Hole}
@@ -18,6 +19,12 @@ use Rattle.outline.proofs.WorkedInputs.{at, area}
 
 abbrev ended : Kind → List Position → Sheet → EndOutcome
 ended k ps s = endCall (walkOf (record { kind = k; points = ps })) s
+
+-- ---- the sign of each kind: 0 has neither
+
+signs : map (hasSign Island) (negsuc 0 ∷ pos 0 ∷ pos 1 ∷ []) ++ map (hasSign Hole) (negsuc 0 ∷ pos 0 ∷ pos 1 ∷ []) ≡ false ∷ false ∷ true ∷ true ∷ false ∷ false ∷ []
+unfolding hasSign
+signs = refl
 
 -- ---- a pond, walked both ways, from each of its points, as an island and as a hole
 
@@ -38,7 +45,7 @@ walked-pond : Pond
 unfolding openEdges sumOver over exceed outside hasSign turned zeroArea impossibleWalk impossibleSheet endCall
 walked-pond = record { island = refl; hole = refl }
 
--- ---- 26 looks at the totals as they count
+-- ---- 26 looks at the totals as added
 
 -- The unit square, walked clockwise.
 abbrev clockwise : List Position

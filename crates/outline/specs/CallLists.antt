@@ -72,7 +72,7 @@ after r (c ∷ calls) = after (next r c) calls
 abbrev pub from : Walk → Trace
 from w = record { walk = w; ring = record { kind = Island; points = [] } }
 
--- The walk that begin and then the points of a ring make: its kind, their number, the first and the last of them, and the sums over the edges from each to the next.
+-- The first and the last of some points.
 abbrev pub firstOf : List Position → Position
 firstOf ps = getD ps 0 origin
 
@@ -80,10 +80,11 @@ abbrev pub lastOf : List Position → Position
 lastOf [] = origin
 lastOf (a ∷ ps) = getD (a ∷ ps) (length ps) origin
 
+-- The walk that begin and then the points of a ring make: its kind, their number, the first and the last of them, and the sums over the edges from each to the next.
 abbrev pub walkOf : Ring → Walk
 walkOf g = let ps = g .points in openWalk (g .kind) (length ps) (firstOf ps) (lastOf ps) (totalsOver (openEdges ps))
 
--- The totals of a ring as they count: the sums over all edges, the closing edge among them, turned by its kind.
+-- The totals of a ring as added: the sums over all edges, the closing edge among them, turned by its kind.
 abbrev pub ringTotals : Ring → Totals
 ringTotals g = turned (g .kind) (outlineTotals (g .points))
 

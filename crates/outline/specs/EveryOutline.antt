@@ -1,5 +1,5 @@
--- The statements on walked outlines are not empty: what the list call accepts can be walked, and its end is accepted unless its area is zero. proofs/EveryOutline has the
--- proofs.
+-- The statements on walked outlines are not empty: what the list call accepts can be walked, and on a sheet with room its end is accepted unless its area is zero.
+-- proofs/EveryOutline has the proof.
 use mathlib.Core.Path.{_≡_}
 use mathlib.Core.Bool.{false}
 use mathlib.Core.Logic.{_≢_}
@@ -23,14 +23,14 @@ answers w [] = []
 answers w (c ∷ calls) = numberOf w c ∷ answers (walkAfter w c) calls
 
 -- Begin and the points of a ring.
-abbrev pub callsOf : Ring → List Call
-callsOf g = begin (g .kind) ∷ map point (g .points)
+abbrev pub ringCalls : Ring → List Call
+ringCalls g = begin (g .kind) ∷ map point (g .points)
 
 -- What is claimed of a ring that is walked from w, its end left for later: begin and every point are accepted, with number 0, and make the ring and its walk.
 pub record Walkable (w : Walk) (g : Ring) : Type 0 where
-  pub none-refused : (n : ℕ) → List·Memᴰ n (answers w (callsOf g)) → n ≡ 0
-  pub ring : after (from w) (callsOf g) .ring ≡ g
-  pub walk : after (from w) (callsOf g) .walk ≡ walkOf g
+  pub none-refused : (n : ℕ) → List·Memᴰ n (answers w (ringCalls g)) → n ≡ 0
+  pub ring : after (from w) (ringCalls g) .ring ≡ g
+  pub walk : after (from w) (ringCalls g) .walk ≡ walkOf g
 
 -- A sheet that 28 takes, that has fewer than 64 outlines, and that stays within its limits with t added.
 pub record Room (s : Sheet) (t : Totals) : Type 0 where
@@ -44,7 +44,7 @@ endedWith s t = record { number = 0; totals = t; walk = closed; sheet = sheetWit
 
 -- What is claimed of a ring whose points have the totals t, by the list call.
 pub record Ending (g : Ring) (t : Totals) : Type 0 where
-  -- Where it has an area, its end is accepted by every sheet with room for the totals as they count: it answers these, closes the walk and adds them to the sheet.
+  -- Where it has an area, its end is accepted by every sheet with room for the totals as added: it answers these, closes the walk and adds them to the sheet.
   pub accepted : t .a2 ≢ pos 0 → (s : Sheet) → Room s (turned (g .kind) t) → endCall (walkOf g) s ≡ endedWith s (turned (g .kind) t)
   -- Where it has none, its end is refused with 32 by every sheet that 28 takes, and leaves the walk open.
   pub refused : t .a2 ≡ pos 0 → (s : Sheet) → impossibleSheet s ≡ false → endCall (walkOf g) s ≡ refusedEnd 32 (walkOf g) s

@@ -60,7 +60,7 @@ unfoldable pub hasSign : Kind → ℤ → Bool
 hasSign Island a = ltZ (pos 0) a
 hasSign Hole a = ltZ a (pos 0)
 
--- The totals of a ring as they count: where A2 has not the sign of the kind, all six signs are turned.
+-- The totals of a ring as added: where A2 has not the sign of the kind, all six signs are turned.
 unfoldable pub turned : Kind → Totals → Totals
 turned k t = cond (hasSign k (t .a2)) t (negated t)
 

@@ -1,6 +1,8 @@
--- The readings are one to one: a reply of each call follows from its number and its values. So no two replies have the same reading.
+-- The readings are one to one: a reply of each call follows from its number and its values. So no two replies have the same reading. And each answer has the number that
+-- its name stands for.
 use mathlib.Core.Path.{_≡_, refl, sym, _∙_, ap}
 use mathlib.Core.Bool.{cond}
+use mathlib.Core.List.{[], _∷_, map}
 use Prim.Native.Nat.{ℕ}
 use lib.Dec.{eqb}
 use Rattle.outline.specs.declared.Totals.{Totals}
@@ -92,3 +94,15 @@ end-back end.SheetExceeded = refl
 
 pub end-reading-one-to-one : (r s : EndReply) → endReading r ≡ endReading s → r ≡ s
 end-reading-one-to-one r s e = λ i. record { answer = (sym (end-back (r .answer)) ∙ ap (λ o. endOf (o .number) (o .totals)) e ∙ end-back (s .answer)) i; walk = e i .walk; sheet = e i .sheet }
+
+-- ---- the numbers by the names of the answers
+
+record Numbered : Type 0 where
+  list : map (λ a. reading a .number) (outline.OutsideLimits ∷ outline.WrongLength ∷ []) ≡ 1 ∷ 2 ∷ []
+  begun : map beginNumber (begin.Impossible ∷ begin.AlreadyOpen ∷ []) ≡ 28 ∷ 22 ∷ []
+  abandoned : map abandonNumber (abandon.Impossible ∷ abandon.NotOpen ∷ []) ≡ 28 ∷ 21 ∷ []
+  pointed : map pointNumber (point.Impossible ∷ point.NotOpen ∷ point.OutsideLimits ∷ point.Full ∷ []) ≡ 28 ∷ 21 ∷ 1 ∷ 23 ∷ []
+  ended : map endNumber (end.Impossible ∷ end.NotOpen ∷ end.TooFewPoints ∷ end.ZeroArea ∷ end.SheetFull ∷ end.SheetExceeded ∷ []) ≡ 28 ∷ 21 ∷ 24 ∷ 32 ∷ 25 ∷ 26 ∷ []
+
+numbered : Numbered
+numbered = record { list = refl; begun = refl; abandoned = refl; pointed = refl; ended = refl }

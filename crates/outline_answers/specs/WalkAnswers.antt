@@ -1,4 +1,4 @@
--- The replies of point and end in document 01's terms ("Turned back because of the input", ".. of the state"): the answer's number, 0 where
+-- The replies of begin, abandon, point and end in document 01's terms ("Turned back because of the input", ".. of the state"): the answer's number, 0 where
 -- it accepts, and what the call leaves; with end the totals, which are zeros with every refusal.
 use Prim.Native.Nat.{ℕ}
 use Rattle.outline.specs.declared.Totals.{Totals}
@@ -10,7 +10,6 @@ use Rattle.outline_answers.specs.declared.PointReply.{PointReply}
 use Rattle.outline_answers.specs.declared.EndAnswer.{EndAnswer}
 use Rattle.outline_answers.specs.declared.EndAnswer.the-variants as end
 use Rattle.outline_answers.specs.declared.EndReply.{EndReply}
-use Rattle.outline.specs.WalkCalls.{WalkOutcome}
 use Rattle.outline_answers.specs.declared.BeginAnswer.{BeginAnswer}
 use Rattle.outline_answers.specs.declared.BeginAnswer.the-variants as begin
 use Rattle.outline_answers.specs.declared.BeginReply.{BeginReply}

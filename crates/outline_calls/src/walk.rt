@@ -123,7 +123,7 @@ fn negate(t: Totals) -> Totals
     }
 }
 
-// The totals of a ring as they count.
+// The totals of a ring as added.
 fn turn(kind: Kind, ring: Totals) -> Totals
     requires { ⌜ exceed totalLimits ring ≡ false ⌝ }
     ensures { λ r. ⌜ r ≡ turned kind ring ⌝ }

@@ -19,6 +19,7 @@ pub mod Chunks
 mod LinesInTurn
 mod OutputLaws
 mod RingLines
+mod RingLinesUses
 mod ChunksUses
 mod LineByLine
 mod LineByLineUses

@@ -1,20 +1,18 @@
 -- Document 02, CR 3, in the text program: the sign of an O line's A2 is that of the B line's kind, and a ring that is walked the other way, or from another of its
 -- points, prints the same.
-use Prim.Native.Nat.{ℕ}
 use mathlib.Core.Path.{_≡_, sym, ap, _∙_}
 use mathlib.Core.Bool.{true, cond}
 use mathlib.Core.List.{List}
 use lib.Dec.{eqb}
 use Rattle.outline.specs.declared.Walk.{Walk}
 use Rattle.outline.specs.declared.Sheet.{Sheet}
-use Rattle.outline.specs.Pieces.{startAt, Direction, walked}
 use Rattle.outline.specs.WalkCalls.{hasSign, endCall}
-use Rattle.outline.specs.CallLists.{Trace, Walking, reached}
+use Rattle.outline.specs.CallLists.{Trace}
 use Rattle.outline.specs.WalkedOutline.{IsOutline}
 use Rattle.outline.proofs.Rings.{sign-by-kind, same-count, walked-back}
-use Rattle.parsing.specs.Grammar.{end}
 use Rattle.printing.specs.Output.{outlineLine, refusalLine}
 use Rattle.text_program.specs.Program.{Line, carriedEnd, carryOut}
+use Rattle.text_program.specs.RingLines.{PrintedBack}
 use Rattle.text_program.proofs.OutputLaws.{afterLines, traceAfter, ringSince, same-walk, is-outline, answeredFor, end-answers}
 
 -- ---- the sign
@@ -32,12 +30,12 @@ outline-sign before = rw (← same-walk before) (trace-sign (traceAfter before) 
 
 -- ---- the other way
 
--- Two open walks that calls have made, of the same kind; the second's points are the first's, started anywhere and walked either way.
-module _ (first : Walking) (open-first : reached first .walk .is_open ≡ true) (second : Walking) (open-second : reached second .walk .is_open ≡ true) (kind : reached second .ring .kind ≡ reached first .ring .kind) (start : ℕ) (direction : Direction) (same : reached second .ring .points ≡ startAt start (walked direction (reached first .ring .points))) where
-  -- With every sheet, an end on a line of the same number prints the same O line or the same R line, and leaves the same sheet.
-  pub back-prints : (n : ℕ) (s : Sheet) → (let a = carryOut n end (reached first .walk) s in let b = carryOut n end (reached second .walk) s in (b .output ≡ a .output) × (b .sheet ≡ a .sheet))
-  unfolding carryOut carriedEnd
-  back-prints n s =
-      let e = walked-back first open-first second open-second kind start direction same s in
-      let count = same-count first second start direction same open-first open-second in
-      (sym (λ i. cond (eqb (e .number i) 0) (outlineLine (e .sheet i .count) (count i) (e .totals i)) (refusalLine n (e .number i))), sym (e .sheet))
+pub printed-back : PrintedBack
+unfolding carryOut carriedEnd
+printed-back first open-first second open-second kind start direction same line s =
+    let e = walked-back first open-first second open-second kind start direction same s in
+    let count = same-count first second start direction same open-first open-second in
+    record {
+      output = λ i. cond (eqb (e .number i) 0) (outlineLine (e .sheet i .count) (count i) (e .totals i)) (refusalLine line (e .number i));
+      sheet = e .sheet;
+    }

@@ -16,7 +16,7 @@ use Rattle.outline.specs.MapCall.{mapCall}
 use Rattle.outline.specs.Pieces.{Piece, Cut, piecesOf, totalsOf}
 use Rattle.outline.specs.WalkCalls.{closed, sheetOf, newSheet, endCall}
 use Rattle.outline.specs.CallLists.{Ring, after, from, sheetAfter}
-use Rattle.outline.specs.EveryOutline.{callsOf}
+use Rattle.outline.specs.EveryOutline.{ringCalls}
 use Rattle.centroid.specs.Centroid.{CentroidOutcome, refused, outlineCentroidCall}
 use Rattle.cells.specs.declared.Run.{Run}
 use Rattle.cells.specs.RegionCall.{RegionOutcome, regionCall}
@@ -46,7 +46,7 @@ areaAndX6 p = (totalsOf p .a2, totalsOf p .x6)
 
 -- The walk that begin and the points of a ring leave.
 abbrev walkedRing : Ring → Walk
-walkedRing g = after (from closed) (callsOf g) .walk
+walkedRing g = after (from closed) (ringCalls g) .walk
 
 abbrev endOf : Ring → Outcome
 endOf g = let e = endCall (walkedRing g) newSheet in record { number = e .number; totals = e .totals }

@@ -9,19 +9,23 @@ use Rattle.integers.proofs.Flags.{tells}
 use Rattle.outline.specs.declared.Totals.{Totals}
 use Rattle.outline.specs.EdgeSums.{plus, exceed}
 use Rattle.outline.specs.MapCall.{totalLimits}
-use Rattle.outline.specs.WalkCalls.{sheetOf, turned, addedTotals, endCall}
+use Rattle.outline.specs.WalkCalls.{sheetOf, closedTotals, turned, addedTotals, endCall}
 use Rattle.outline.proofs.PossibleWalks.{possible-open, sheet-within}
 use Rattle.outline.proofs.TurnedTotals.{turned-exceed}
 use Rattle.outline_calls.proofs.WalkTotals.{closed-within}
 use Rattle.outline_calls.proofs.walk.add_to_sheet.Statement.{statement}
 use Rattle.outline_calls.proofs.walk.add_to_sheet.Tie as tie
 
--- The ring's totals can be added, as they are and turned.
+-- The totals handed in are those of the walk with the closing edge.
+is-ring : (s : tie.Start) → s .args .ring ≡ closedTotals (s .args .w)
+is-ring s = s .pre .1 .1 .1 .1 .1 .1
+
+-- They can be added, as they are and turned.
 ring-within : (s : tie.Start) → exceed totalLimits (s .args .ring) ≡ false
 ring-within s =
     let possible = possible-open (s .args .w) (s .pre .0) (s .pre .1 .1 .0) in
     let some : s .args .w .count ≡ 0 → ⊥ = λ z. omega arith in
-    rw (s .pre .1 .1 .1 .1 .1 .1) (closed-within (s .args .w) possible some)
+    rw (is-ring s) (closed-within (s .args .w) possible some)
 
 both-within : (c : tie.After-turn) → (exceed totalLimits (c .before .args .ring) ≡ false) × (exceed totalLimits (c .turn .result) ≡ false)
 both-within c =
@@ -36,7 +40,7 @@ add-requires c κs = let s = c .before .before in (sheet-within (s .args .s) (s 
 
 -- The turned totals are those of the definition.
 added : (c : tie.After-turn) → c .turn .result ≡ addedTotals (c .before .args .w)
-added c = let s = c .before in c .turn .ensures ∙ ap (turned (s .args .w .kind)) (s .pre .1 .1 .1 .1 .1 .1)
+added c = let s = c .before in c .turn .ensures ∙ ap (turned (s .args .w .kind)) (is-ring s)
 
 -- The sheet's sums with the walk's totals.
 abbrev sumsWith : tie.Start → Totals
