@@ -1,7 +1,7 @@
 -- The walked theorem is not empty: every outline that the list call accepts can be walked, from any walk marked closed, as a ring of either kind. If it has an area, its
 -- end is accepted by every sheet that has room for it; if it has none, it is refused with 32.
 use mathlib.Core.Path.{_≡_, refl, sym, _∙_, ap, subst}
-use mathlib.Core.Bool.{Bool, true, false, cond}
+use mathlib.Core.Bool.{false, cond}
 use mathlib.Core.List.{List, [], _∷_, _++_, map, append-assoc, append-nil}
 use mathlib.Core.Logic.{_≢_}
 use Prim.Native.Nat.{_+_, _<_, _≤_}
@@ -15,7 +15,7 @@ use Rattle.outline.specs.declared.Totals.{Totals}
 use Rattle.outline.specs.declared.Kind.{Kind}
 use Rattle.outline.specs.declared.Walk.{Walk}
 use Rattle.outline.specs.declared.Sheet.{Sheet}
-use Rattle.outline.specs.EdgeSums.{openEdges, sumOver, outlineTotals, negated, over, exceed}
+use Rattle.outline.specs.EdgeSums.{openEdges, sumOver, outlineTotals, over, exceed}
 use Rattle.outline.specs.ListCall.{accepted, points, listCall}
 use Rattle.outline.specs.MapCall.{totalLimits}
 use Rattle.outline.specs.WalkCalls.{newSheet, closedTotals, turned, impossibleSheet, beginCall, pointCall, refusedEnd, endCall}

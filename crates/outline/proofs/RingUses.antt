@@ -17,8 +17,8 @@ use Rattle.outline.specs.EdgeSums.{openEdges, edges, sumOver, zeros, ove
 use Rattle.outline.specs.ListCall.{accepted, points, numbers, outside, anyOutside, listCall}
 use Rattle.outline.specs.MapCall.{moved, disallowed}
 use Rattle.outline.specs.Pieces.{Cut, piecesOf, startAt, Direction, backwards, walked, placed}
-use Rattle.outline.specs.WalkCalls.{closed, sheetOf, extended, closedTotals, hasSign, turned, zeroArea, sheetWith, impossibleWalk, impossibleSheet, refusedEnd, beginCall, pointCall, endCall, abandonCall}
-use Rattle.outline.specs.CallLists.{begin, point, end, abandon, numberOf, walkAfter, Ring, ringWith, next, after, from, walkOf, Walking, reached}
+use Rattle.outline.specs.WalkCalls.{closed, sheetOf, extended, closedTotals, hasSign, turned, zeroArea, sheetWith, impossibleWalk, impossibleSheet, beginCall, pointCall, endCall, abandonCall}
+use Rattle.outline.specs.CallLists.{begin, point, end, numberOf, walkAfter, Ring, ringWith, next, after, from, Walking, reached}
 use Rattle.outline.specs.PiecesAddUp.{AddUpMoved}
 use Rattle.outline.specs.WalkedOutline.{Closable}
 use Rattle.outline.specs.EveryOutline.{answers, ringCalls, Walkable, Room, endedWith, Ending}
@@ -28,7 +28,7 @@ use Rattle.outline.proofs.PiecesUses.{pentagon, pentagonTotals, pentago
 use Rattle.outline.proofs.WalkedOutline.{walked-outline, walked-pieces}
 use Rattle.outline.proofs.EveryOutline.{every-outline}
 use Rattle.outline.proofs.Rings.{sign-by-kind, walked-back}
-use Rattle.outline.proofs.WalkedUses.{first, first-ring, first-closable, lastPlace}
+use Rattle.outline.proofs.WalkedUses.{first, first-closable, lastPlace}
 
 -- ---- a figure eight whose end is refused with 32, and goes on
 

@@ -7,7 +7,6 @@ use native.Mathlib.Omega.{arith}
 use lib.Dec.{eqb}
 use lib.ListN.{length}
 use borrow.Author.Tests.{le-ltb, eqb-true, ne-eqb}
-use Rattle.outline.specs.declared.Position.{Position}
 use Rattle.outline.specs.declared.Totals.{Totals}
 use Rattle.outline.specs.declared.Walk.{Walk}
 use Rattle.outline.specs.declared.Sheet.{Sheet}

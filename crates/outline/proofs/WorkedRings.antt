@@ -12,8 +12,8 @@ use Rattle.outline.specs.declared.Sheet.{Sheet}
 use Rattle.outline.specs.EdgeSums.{openEdges, sumOver, zeros, negated, over, exceed}
 use Rattle.outline.specs.ListCall.{outside}
 use Rattle.outline.specs.Pieces.{startAt}
-use Rattle.outline.specs.WalkCalls.{openWalk, closed, sheetOf, newSheet, extended, hasSign, turned, zeroArea, impossibleWalk, impossibleSheet, EndOutcome, refusedEnd, pointCall, endCall}
-use Rattle.outline.specs.CallLists.{Ring, walkOf}
+use Rattle.outline.specs.WalkCalls.{openWalk, sheetOf, newSheet, extended, hasSign, turned, zeroArea, impossibleWalk, impossibleSheet, EndOutcome, refusedEnd, pointCall, endCall}
+use Rattle.outline.specs.CallLists.{walkOf}
 use Rattle.outline.specs.EveryOutline.{endedWith}
 use Rattle.outline.proofs.WorkedInputs.{at, area}
 
