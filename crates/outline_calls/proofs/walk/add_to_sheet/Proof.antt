@@ -1,7 +1,7 @@
 -- `outline_calls::walk::add_to_sheet` meets its contract: the totals of a walk and a sheet that 28 does not refuse can be added, and of the tests only that of 26 is left.
 use mathlib.Core.Path.{_≡_, _∙_, ap}
 use mathlib.Core.Bool.{false}
-use Prim.Native.Nat.{_+_}
+use Prim.Native.Nat.{_+_, _<_}
 use native.Mathlib.Omega.{arith}
 use borrow.Author.Needs.{needs}
 use borrow.Author.Tests.{le-ltb, lt-leb}
@@ -16,7 +16,18 @@ use Rattle.outline_calls.proofs.WalkTotals.{closed-within}
 use Rattle.outline_calls.proofs.walk.add_to_sheet.Statement.{statement}
 use Rattle.outline_calls.proofs.walk.add_to_sheet.Tie as tie
 
--- The totals handed in are those of the walk with the closing edge.
+-- The places: where the sums were tested, from where the walk is closed; and the entry, from there.
+abbrev tested : tie.After-struct-known → tie.After-outside-limits
+tested c = c .before .before .before
+
+abbrev start : tie.After-outside-limits → tie.Start
+start c = c .before .before .before .before
+
+-- What is known at the entry: the sheet has room for an outline,
+has-room : (s : tie.Start) → s .args .s .count < 64
+has-room s = s .pre .1 .1 .1 .1 .1 .0
+
+-- and the totals handed in are those of the walk with the closing edge.
 is-ring : (s : tie.Start) → s .args .ring ≡ closedTotals (s .args .w)
 is-ring s = s .pre .1 .1 .1 .1 .1 .1
 
@@ -53,7 +64,7 @@ outside-limits-requires : tie.Need-outside-limits-requires
 outside-limits-requires c κs = search needs
 
 -- Whether they exceed the limits is what the code asked.
-asked : (c : tie.After-outside-limits) → c .outside-limits .result ≡ exceed totalLimits (sumsWith (c .before .before .before .before))
+asked : (c : tie.After-outside-limits) → c .outside-limits .result ≡ exceed totalLimits (sumsWith (start c))
 asked c = c .outside-limits .ensures ∙ ap (exceed totalLimits) (sums (c .before))
 
 refused-end-requires : tie.Need-refused-end-requires
@@ -63,27 +74,25 @@ returns : tie.Need-returns
 unfolding endCall
 returns c =
     let exceeded = c .before in
-    let tested = exceeded .before in
-    let s = tested .before .before .before .before in
+    let s = start (exceeded .before) in
     let past = s .pre .1 .1 in
-    rw (c .refused-end .ensures, s .pre .0, s .pre .1 .0, past .0, le-ltb _ _ (past .1 .0), past .1 .1 .0, lt-leb _ _ (past .1 .1 .1 .0), tells (asked tested) (exceeded .if1 .taken))
+    rw (c .refused-end .ensures, s .pre .0, s .pre .1 .0, past .0, le-ltb _ _ (past .1 .0), past .1 .1 .0, lt-leb _ _ (has-room s), tells (asked (exceeded .before)) (exceeded .if1 .taken))
 
 new-walk-requires : tie.Need-new-walk-requires
 new-walk-requires c κs = search needs
 
 add-t12 : tie.Need-add-t12
-add-t12 c = let s = c .before .before .before .before .before .before .before in search (needs, s .pre .1 .1 .1 .1 .1 .0)
+add-t12 c = search (needs, has-room (start (tested c)))
 
 returns-2 : tie.Need-returns-2
 unfolding endCall
 returns-2 c =
     let within = c .before .before in
-    let tested = within .before in
-    let summed = tested .before in
+    let summed = tested c .before in
     let at-turn = summed .before .before in
-    let s = at-turn .before in
+    let s = start (tested c) in
     let past = s .pre .1 .1 in
-    rw (s .pre .0, s .pre .1 .0, past .0, le-ltb _ _ (past .1 .0), past .1 .1 .0, lt-leb _ _ (past .1 .1 .1 .0), tells (asked tested) (within .if1 .left))
+    rw (s .pre .0, s .pre .1 .0, past .0, le-ltb _ _ (past .1 .0), past .1 .1 .0, lt-leb _ _ (has-room s), tells (asked (tested c)) (within .if1 .left))
     (λ i. record { number = 0; totals = added at-turn i; walk = c .before .new-walk .ensures i; sheet = sheetOf (s .args .s .count + 1) (sums summed i) })
 
 pub add-to-sheet-spec : {M : Type 1} → statement M
