@@ -43,14 +43,21 @@ pub fn size_exceeds(z: i64, bound: u64) -> bool
     b < z
 }
 
-// Refusal 1: whether a coordinate is outside -2,000 to 2,000.
+// Whether a coordinate is outside -2,000 to 2,000.
+pub fn coordinate_outside(z: i32) -> bool
+    ensures { λ r. ⌜ r ≡ over 2000 z ⌝ }
+{
+    size_exceeds(z as i64, 2000)
+}
+
+// Refusal 1: whether one of the two coordinates is outside.
 pub fn position_outside(p: Position) -> bool
     ensures { λ r. ⌜ r ≡ outside p ⌝ }
 {
-    if size_exceeds(p.x as i64, 2000) {
+    if coordinate_outside(p.x) {
         return true;
     }
-    size_exceeds(p.y as i64, 2000)
+    coordinate_outside(p.y)
 }
 
 // Whether some total is greater in size than its bound.

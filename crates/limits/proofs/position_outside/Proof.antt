@@ -1,10 +1,10 @@
--- `position_outside`: it asks of each coordinate, widened to 64 bits, whether it is over the limit.
+-- `position_outside`: it asks of each coordinate whether it is outside.
 use mathlib.Core.Path.{_≡_}
 use borrow.Author.Needs.{needs}
+use mir.Facts.{toZ-ofZ}
 use mir.Syntax.{w32}
 use mir.Val.{SFits}
 use Rattle.integers.proofs.Flags.{tells, of-field}
-use Rattle.integers.proofs.Widening.{widens, widened}
 use Rattle.outline.specs.EdgeSums.{over}
 use Rattle.outline.specs.ListCall.{outside}
 use Rattle.limits.proofs.position_outside.Statement.{statement}
@@ -17,8 +17,8 @@ module _ (s : tie.Start) where
   fits-y : SFits w32 (s .args .p .y)
   fits-y = search needs
 
-asked-x : (c : tie.After-size-exceeds) → c .size-exceeds .result ≡ over 2000 (c .before .before .before .args .p .x)
-asked-x c = of-field (over 2000) _ (c .size-exceeds .ensures) (widened (fits-x (c .before .before .before)))
+asked-x : (c : tie.After-coordinate-outside) → c .coordinate-outside .result ≡ over 2000 (c .before .before .args .p .x)
+asked-x c = of-field (over 2000) _ (c .coordinate-outside .ensures) (toZ-ofZ (fits-x (c .before .before)))
 
 returns : tie.Need-returns
 unfolding outside
@@ -27,17 +27,9 @@ returns c = rw (tells (asked-x (c .before)) (c .if1 .taken))
 returns-2 : tie.Need-returns-2
 unfolding outside
 returns-2 c =
-    let not-x = c .before .before .before in
+    let not-x = c .before .before in
     let at-x = not-x .before in
-    rw (tells (asked-x at-x) (not-x .if1 .left)) (of-field (over 2000) _ (c .size-exceeds2 .ensures) (widened (fits-y (at-x .before .before .before))))
+    rw (tells (asked-x at-x) (not-x .if1 .left)) (of-field (over 2000) _ (c .coordinate-outside2 .ensures) (toZ-ofZ (fits-y (at-x .before .before))))
 
 pub position-outside-spec : {M : Type 1} → statement M
-position-outside-spec =
-    tie.close
-    (tie.spec
-    (λ c. widens (fits-x (c .before .before)))
-    (λ c κs. search needs)
-    returns
-    (λ c. widens (fits-y (c .before .before .before .before .before .before)))
-    (λ c κs. search needs)
-    returns-2)
+position-outside-spec = tie.close (tie.spec (λ c κs. search needs) returns (λ c κs. search needs) returns-2)
