@@ -1,1 +1,1 @@
-pub mod OutsideSteps
+mod OutsideSteps

@@ -1,18 +1,37 @@
--- The search for a point outside the limits, by index.
-use mathlib.Core.Path.{_≡_}
-use mathlib.Core.Bool.{false, _||_}
-use mathlib.Core.List.{List}
-use Prim.Native.Nat.{ℕ, _+_, _≤_, _<_}
+-- The search for a number over the limit, by index; and that over all pairs it finds what the definition finds by points.
+use mathlib.Core.Path.{_≡_, refl, sym, _∙_, ap}
+use mathlib.Core.Bool.{Bool, false, _||_, or-false, or-assoc}
+use mathlib.Core.List.{List, [], _∷_}
+use Prim.Native.Nat.{ℕ, zero, suc, _+_, _*_, _<_}
+use native.Mathlib.Nat.{not-suc-le-zero, le-of-suc-le-suc}
 use native.Mathlib.Numerals.{add-one}
-use lib.ListN.{length, getD, drop, drop-of-length-le}
-use lib.Seq.{drop-cons}
-use Rattle.outline.specs.declared.Position.{Position}
-use Rattle.outline.specs.ListCall.{outside, anyOutside}
+use native.Mathlib.Omega.{arith}
+use lib.IntN.{ℤ, pos}
+use lib.ListN.{length, getD, take}
+use Rattle.outline.specs.EdgeSums.{over}
+use Rattle.outline.specs.ListCall.{points, outside, anyOutside}
 
-pub outside-next : (ps : List Position) (k : ℕ) (d : Position) → k < length ps → anyOutside (drop k ps) ≡ (outside (getD ps k d) || anyOutside (drop (k + 1) ps))
-unfolding anyOutside
-outside-next ps k d h = rw (add-one, drop-cons ps k d)
+-- Whether some number of the list is over 2,000 in size.
+unfoldable pub anyOver : List ℤ → Bool
+anyOver [] = false
+anyOver (z ∷ zs) = over 2000 z || anyOver zs
 
-pub outside-end : (ps : List Position) (k : ℕ) → length ps ≤ k → anyOutside (drop k ps) ≡ false
-unfolding anyOutside
-outside-end ps k h = rw (drop-of-length-le ps h)
+one-more : (zs : List ℤ) (i : ℕ) → i < length zs → anyOver (take (suc i) zs) ≡ (anyOver (take i zs) || over 2000 (getD zs i (pos 0)))
+unfolding anyOver
+one-more [] i h = absurd (not-suc-le-zero h)
+one-more (z ∷ zs) zero h = or-false (over 2000 z)
+one-more (z ∷ zs) (suc i) h = ap (λ b. over 2000 z || b) (one-more zs i (le-of-suc-le-suc h)) ∙ sym (or-assoc (over 2000 z) (anyOver (take i zs)) (over 2000 (getD zs i (pos 0))))
+
+-- One number more.
+pub over-next : (zs : List ℤ) (i : ℕ) → i < length zs → anyOver (take (i + 1) zs) ≡ (anyOver (take i zs) || over 2000 (getD zs i (pos 0)))
+over-next zs i h = rw add-one (one-more zs i h)
+
+-- The numbers of all pairs. A number that is left without its pair is in no point.
+pub over-pairs : (zs : List ℤ) → anyOver (take (length (points zs) * 2) zs) ≡ anyOutside (points zs)
+unfolding anyOver points outside anyOutside
+over-pairs [] = refl
+over-pairs (x ∷ []) = refl
+over-pairs (x ∷ y ∷ zs) = ap (λ n. anyOver (take n (x ∷ y ∷ zs))) two-more ∙ ap (λ b. over 2000 x || (over 2000 y || b)) (over-pairs zs) ∙ sym (or-assoc (over 2000 x) (over 2000 y) (anyOutside (points zs)))
+  where
+    two-more : suc (length (points zs)) * 2 ≡ suc (suc (length (points zs) * 2))
+    two-more = omega arith

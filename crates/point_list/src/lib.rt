@@ -3,7 +3,7 @@ ghost use mathlib.Core.Path.{_≡_};
 ghost use lib.ListN.{getD};
 ghost use Rattle.outline.specs.ListCall.{points as pointsOf, wrongLength, anyOutside};
 ghost use Rattle.outline.specs.WalkCalls.{origin};
-use limits::position_outside;
+use limits::coordinate_outside;
 use outline::ORIGIN;
 use outline::Position;
 
@@ -35,18 +35,16 @@ pub fn position_at(points: &[i32], k: usize) -> Position
     }
 }
 
-// Whether some point of the list is outside the limits.
+// Whether some point of the list is outside the limits. Every number that has its pair is looked at, without a branch: the compiler then tests several at once.
 pub fn any_outside(points: &[i32]) -> bool
     ensures { λ r. ⌜ r ≡ anyOutside (pointsOf (now (points .entry))) ⌝ }
 {
-    let n = points.len() / 2;
-    let mut k = 0;
-    while k < n {
-        let p = position_at(points, k);
-        if position_outside(p) {
-            return true;
-        }
-        k += 1;
+    let n = points.len() / 2 * 2;
+    let mut found = false;
+    let mut i = 0;
+    while i < n {
+        found = found | coordinate_outside(points[i]);
+        i += 1;
     }
-    false
+    found
 }

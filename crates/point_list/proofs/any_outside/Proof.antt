@@ -1,57 +1,66 @@
--- `any_outside`. The invariant: the answer is that for the points from k on.
-use mathlib.Core.Path.{_≡_, sym, _∙_}
-use mathlib.Core.Bool.{_||_}
-use Prim.Native.Nat.{_+_, _-_}
+-- `any_outside`. The invariant: the answer is that for the first i numbers.
+use mathlib.Core.Path.{_≡_, refl, sym, _∙_}
+use mathlib.Core.Bool.{Bool}
+use mathlib.Core.List.{List}
+use Prim.Native.Nat.{ℕ, _-_, _*_, _≤_}
 use native.Mathlib.Omega.{arith}
 use borrow.Author.Needs.{needs}
-use lib.ListN.{drop}
-use Rattle.outline.specs.ListCall.{points as pointsOf, anyOutside}
-use Rattle.outline.specs.WalkCalls.{origin}
+use lib.IntN.{ℤ, pos}
+use lib.ListN.{length, getD, take}
+use mir.Syntax.{w32}
+use mir.Val.{toZ, ofZ}
+use Rattle.outline.specs.ListCall.{points as pointsOf}
 use Rattle.outline.proofs.IndexLaws.{length-points}
-use Rattle.point_list.proofs.OutsideSteps.{outside-next, outside-end}
+use Rattle.point_list.proofs.OutsideSteps.{anyOver, over-next, over-pairs}
 use Rattle.point_list.proofs.any_outside.Statement.{statement}
 use Rattle.point_list.proofs.any_outside.Tie as tie
 
+-- Of the numbers zs, the first i of n are looked at.
+record LookedAt (zs : List ℤ) (n : ℕ) (found : Bool) (i : ℕ) : Type 0 where
+  is : found ≡ anyOver (take i zs)
+  most : i ≤ n
+
 abbrev Inv-loop : tie.InvT-loop
-Inv-loop points n k₀ k = anyOutside (pointsOf points) ≡ anyOutside (drop k (pointsOf points))
+Inv-loop points n found₀ i₀ found i = LookedAt points n found i
 
 abbrev μ-loop : tie.MeasureT-loop
-μ-loop points n k₀ k = n - k
+μ-loop points n found₀ i₀ found i = n - i
+
+mul-n : tie.Need-mul-n Inv-loop μ-loop
+mul-n c = omega arith
 
 loop-holds : tie.Need-loop-holds Inv-loop μ-loop
-loop-holds c = search needs
+unfolding anyOver
+loop-holds c = record { is = refl; most = omega arith }
 
-position-at-requires : tie.Need-position-at-requires Inv-loop μ-loop
-position-at-requires c κs = omega arith
+mul-coordinate-outside : tie.Need-mul-coordinate-outside Inv-loop μ-loop
+mul-coordinate-outside c = omega arith
 
-position-outside-requires : tie.Need-position-outside-requires Inv-loop μ-loop
-position-outside-requires c κs = search needs
+shared-slice-copy-out-coordinate-outside : tie.Need-shared-slice-copy-out-coordinate-outside Inv-loop μ-loop
+shared-slice-copy-out-coordinate-outside c = omega arith
 
--- Point k is outside the limits, or one after it is.
-next : (c : tie.After-position-outside Inv-loop μ-loop) → anyOutside (pointsOf (c .before .before .before .before .args .points .now)) ≡ (c .position-outside .result || anyOutside (drop (c .before .before .before .loop .k + 1) (pointsOf (c .before .before .before .before .args .points .now))))
-next c =
-    let zs = c .before .before .before .before .args .points .now in
-    let k = c .before .before .before .loop .k in
-    c .before .before .before .loop .inv
-    ∙ outside-next (pointsOf zs) k origin (omega (arith, length-points zs))
-    ∙ rw (c .position-outside .ensures, c .before .position-at .ensures)
+coordinate-outside-requires : tie.Need-coordinate-outside-requires Inv-loop μ-loop
+coordinate-outside-requires c κs = search needs
 
-returns : tie.Need-returns Inv-loop μ-loop
-returns c = sym (next (c .before) ∙ rw (c .if1 .taken))
-
-add-k : tie.Need-add-k Inv-loop μ-loop
-add-k c = omega arith
+add-i : tie.Need-add-i Inv-loop μ-loop
+add-i c = omega arith
 
 loop-less : tie.Need-loop-less Inv-loop μ-loop
 loop-less c = omega arith
 
 loop-again : tie.Need-loop-again Inv-loop μ-loop
-loop-again c = next (c .before) ∙ rw (c .if1 .left)
+loop-again c =
+    let looped = c .before .before .before in
+    let zs = looped .before .args .points .now in
+    let i = looped .loop .i in
+    let back : toZ w32 (ofZ w32 (getD zs i (pos 0))) ≡ getD zs i (pos 0) = search needs in
+    record { is = rw (looped .loop .inv .is, c .coordinate-outside .ensures, back) (sym (over-next zs i (omega arith))); most = omega arith }
 
-returns-2 : tie.Need-returns-2 Inv-loop μ-loop
-returns-2 c =
+returns : tie.Need-returns Inv-loop μ-loop
+returns c =
     let zs = c .before .before .args .points .now in
-    sym (c .before .loop .inv ∙ outside-end (pointsOf zs) (c .before .loop .k) (omega (arith, length-points zs)))
+    let whole : c .before .loop .i ≡ length (pointsOf zs) * 2 = omega (arith, c .before .loop .inv .most, length-points zs) in
+    c .before .loop .inv .is ∙ rw (whole, over-pairs zs)
 
 pub any-outside-spec : {M : Type 1} → statement M
 any-outside-spec =
@@ -59,11 +68,12 @@ any-outside-spec =
     (tie.spec
     Inv-loop
     μ-loop
+    mul-n
     loop-holds
-    position-at-requires
-    position-outside-requires
-    returns
-    add-k
+    mul-coordinate-outside
+    shared-slice-copy-out-coordinate-outside
+    coordinate-outside-requires
+    add-i
     loop-less
     loop-again
-    returns-2)
+    returns)
