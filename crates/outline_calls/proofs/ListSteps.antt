@@ -1,14 +1,14 @@
--- A list that the call accepts, and one step of the copy and of the sum over a list of numbers, by index.
-use mathlib.Core.Path.{_≡_, refl, sym, ap}
+-- A list that the call accepts, and one step of the sum over its points, by index.
+use mathlib.Core.Path.{_≡_, refl, sym}
 use mathlib.Core.Bool.{false}
-use mathlib.Core.List.{List, [], _∷_, _++_}
+use mathlib.Core.List.{List, [], _∷_}
 use Prim.Native.Nat.{ℕ, zero, suc, _+_, _-_, _≤_, _<_}
-use native.Mathlib.Nat.{not-suc-le-zero, le-of-suc-le-suc}
+use native.Mathlib.Nat.{not-suc-le-zero}
 use native.Mathlib.Numerals.{add-one}
 use native.Mathlib.Omega.{arith}
-use lib.ListN.{length, getD, take, drop, set}
+use lib.ListN.{length, getD, take}
 use lib.Seq.{take-length}
-use lib.IntN.{ℤ, pos}
+use lib.IntN.{ℤ}
 use Rattle.outline.specs.declared.Position.{Position}
 use Rattle.outline.specs.declared.Totals.{Totals}
 use Rattle.outline.specs.EdgeSums.{openEdges, sumOver, totalsOver, outlineTotals, zeros, plus, exceed}
@@ -33,14 +33,6 @@ point-inside zs k o h e = rw e (not-outside (getD (points zs) k origin) (all-at 
 -- The sum of the first edges can be added to.
 pub sum-within : (zs : List ℤ) (k : ℕ) {t : Totals} → OutlineList zs → k ≤ length (points zs) → t ≡ totalsOver (openEdges (take k (points zs))) → exceed totalLimits t ≡ false
 sum-within zs k {t} o h e = let few = o .outline .few in rw e (share-within k (totalsOver (openEdges (take k (points zs)))) (omega arith) (first-fit k (points zs) h (o .outline .inside)))
-
--- ---- the copy to the front of a buffer
-
-pub copied-one : (s d : List ℤ) (i : ℕ) → i < length s → i < length d → set (take i s ++ drop i d) i (getD s i (pos 0)) ≡ take (suc i) s ++ drop (suc i) d
-copied-one [] d i h k = absurd (not-suc-le-zero h)
-copied-one (x ∷ s) [] i h k = absurd (not-suc-le-zero k)
-copied-one (x ∷ s) (y ∷ d) zero h k = refl
-copied-one (x ∷ s) (y ∷ d) (suc i) h k = ap {B = List ℤ} (λ l. x ∷ l) (copied-one s d i (le-of-suc-le-suc h) (le-of-suc-le-suc k))
 
 -- ---- the sum of the edges
 

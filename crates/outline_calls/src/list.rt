@@ -1,9 +1,6 @@
 // The call on a whole list: an outline as one list of numbers, x and y in turn.
 ghost use mathlib.Core.Path.{_≡_};
 ghost use mathlib.Core.Bool.{false};
-ghost use mathlib.Core.List.{_++_};
-ghost use Prim.Native.Nat.{_≤_};
-ghost use lib.ListN.{length, drop};
 ghost use Rattle.outline.specs.EdgeSums.{outlineTotals};
 ghost use Rattle.outline.specs.ListCall.{points as pointsOf, wrongLength, anyOutside, listCall};
 ghost use Rattle.outline_answers.specs.ListAnswer.{reading};
@@ -14,19 +11,6 @@ use outline_answers::OutlineAnswer;
 use point_list::any_outside;
 use point_list::position_at;
 use point_list::wrong_length;
-
-// The points to the front of the buffer; what lies behind them stays.
-fn copy_points(points: &[i32], buffer: &mut [i32])
-    requires { ⌜ length (now points) ≤ length (now buffer) ⌝ }
-    ensures { λ _. ⌜ now (buffer .exit) ≡ now (points .entry) ++ drop (length (now (points .entry))) (now (buffer .entry)) ⌝ }
-{
-    let n = points.len();
-    let mut i = 0;
-    while i < n {
-        buffer[i] = points[i];
-        i += 1;
-    }
-}
 
 // The totals of an outline: each edge from one point to the next, and the closing edge.
 fn sum_edges(points: &[i32]) -> Totals
@@ -48,7 +32,7 @@ fn sum_edges(points: &[i32]) -> Totals
     add_edge(sum, last, first)
 }
 
-// The points are copied to a buffer of the call's own and summed from there.
+// Two passes over the caller's own numbers: the limits, then the edges.
 pub fn outline_totals(points: &[i32]) -> OutlineAnswer
     ensures { λ r. ⌜ reading r ≡ listCall (now (points .entry)) ⌝ }
 {
@@ -58,8 +42,5 @@ pub fn outline_totals(points: &[i32]) -> OutlineAnswer
     if any_outside(points) {
         return OutlineAnswer::OutsideLimits;
     }
-    let mut buffer = [0; 2048];
-    copy_points(points, &mut buffer);
-    let n = points.len();
-    OutlineAnswer::Accepted(sum_edges(&buffer[..n]))
+    OutlineAnswer::Accepted(sum_edges(points))
 }
