@@ -6,7 +6,7 @@
  * answers MAVRIHKEL_SHORT_BUFFER. That much is proved of the library, for every list, number and buffer; that these declarations fit it is tested (check.c, masks.c).
  *
  * What a caller owes: a pointer is aligned and is not NULL, also where the length is 0, and that many entries lie there; the entries of `out`, and those of the list that mavrihkel_mask_runs
- * fills, may be written and overlap no other list. A call keeps no pointer, and no state between calls, so threads may call at once. The list call takes 8 KB of stack.
+ * fills, may be written and overlap no other list. A call keeps no pointer, and no state between calls, so threads may call at once.
  *
  * Lengths are in decimetres, x east and y north. The six totals, in this order: A2 (2 x area), X6 and Y6 (6 x the integral of x and of y), XX12 (12 x that of x squared), XY24 (24 x that of x y),
  * YY12 (12 x that of y squared); positive where the outline is walked anticlockwise.

@@ -1,8 +1,7 @@
-//! The list call. Both test the length and the limits, and sum the six terms of each edge. The library's call first clears a buffer of 2,048 numbers of its own and copies the points there.
-//! "copying" does so too; "in place" sums from the caller's list.
+//! The list call. All three test the length and the limits, then sum the six terms of each edge, from the caller's list in place.
+//! "in place" ends the test of the limits at the first number outside; "same steps" looks at every number, as the library does.
 use crate::{agree, least_times, Call, Numbers};
 use mavrihkel::{outline_totals_into, Totals};
-use std::hint::black_box;
 
 const POINTS_A_ROUND: usize = 200_000;
 
@@ -10,15 +9,12 @@ fn library(points: &[i32], out: &mut [i64; 6]) -> u32 {
     outline_totals_into(points, out)
 }
 
-fn refusal(points: &[i32]) -> u32 {
-    let count = points.len() / 2;
-    if points.len() % 2 == 1 || !(3..=1024).contains(&count) {
-        return 2;
-    }
-    if points.iter().any(|&z| !(-2000..=2000).contains(&z)) {
-        return 1;
-    }
-    0
+fn wrong_length(points: &[i32]) -> bool {
+    points.len() % 2 == 1 || !(3..=1024).contains(&(points.len() / 2))
+}
+
+fn outside(z: &i32) -> bool {
+    !(-2000..=2000).contains(z)
 }
 
 fn add_edge(sum: &mut Totals, from: &[i32], to: &[i32]) {
@@ -50,28 +46,28 @@ fn sum_edges(points: &[i32], out: &mut [i64; 6]) {
     *out = [sum.a2, sum.x6, sum.y6, sum.xx12, sum.xy24, sum.yy12];
 }
 
-/// At the start of a cache line: how long clearing takes depends on that.
-#[repr(align(64))]
-struct Buffer([i32; 2048]);
-
 #[inline(never)]
-fn copying(points: &[i32], out: &mut [i64; 6]) -> u32 {
-    let number = refusal(points);
-    if number == 0 {
-        let mut buffer = Buffer([0; 2048]);
-        black_box(&mut buffer).0[..points.len()].copy_from_slice(points);
-        sum_edges(&buffer.0[..points.len()], out);
+fn in_place(points: &[i32], out: &mut [i64; 6]) -> u32 {
+    if wrong_length(points) {
+        return 2;
     }
-    number
+    if points.iter().any(outside) {
+        return 1;
+    }
+    sum_edges(points, out);
+    0
 }
 
 #[inline(never)]
-fn in_place(points: &[i32], out: &mut [i64; 6]) -> u32 {
-    let number = refusal(points);
-    if number == 0 {
-        sum_edges(points, out);
+fn same_steps(points: &[i32], out: &mut [i64; 6]) -> u32 {
+    if wrong_length(points) {
+        return 2;
     }
-    number
+    if points.iter().fold(false, |found, z| found | outside(z)) {
+        return 1;
+    }
+    sum_edges(points, out);
+    0
 }
 
 /// A polygon with `count` points in no particular order.
@@ -82,17 +78,31 @@ fn outline(count: usize) -> Vec<i32> {
         .collect()
 }
 
+/// All three refuse the same lists with the same number: a number outside at each place, an odd length, too few points and too many.
+fn agree_on_refusals(calls: &[Call<i32, 6>]) {
+    let sound = outline(64);
+    for i in 0..sound.len() {
+        let mut with_one_outside = sound.clone();
+        with_one_outside[i] = [-2001, 2001][i % 2];
+        agree(calls, &with_one_outside, 1);
+        agree(calls, &with_one_outside[1..], 2);
+    }
+    agree(calls, &outline(2), 2);
+    agree(calls, &outline(1025), 2);
+}
+
 pub fn table() {
-    let calls: [Call<i32, 6>; 3] = [library, copying, in_place];
-    println!("points  library/copying  library/in place");
+    let calls: [Call<i32, 6>; 3] = [library, in_place, same_steps];
+    agree_on_refusals(&calls);
+    println!("points  library/in place  library/same steps");
     for count in [4, 64, 1024] {
         let points = outline(count);
         agree(&calls, &points, 0);
-        let [proved, copied, placed] = least_times(calls, &points, POINTS_A_ROUND / count);
+        let [proved, placed, same] = least_times(calls, &points, POINTS_A_ROUND / count);
         println!(
-            "{count:6}  {:15.2}  {:16.2}",
-            proved / copied,
-            proved / placed
+            "{count:6}  {:16.2}  {:18.2}",
+            proved / placed,
+            proved / same
         );
     }
 }
