@@ -1,8 +1,8 @@
--- Two numbers of at most 10^18 in size have a sum that fits 64 bits.
+-- Two numbers of at most 10^18 in size have a sum and a difference that fit 64 bits.
 use mathlib.Core.Path.{_≡_}
 use mathlib.Core.List.{List, [], _∷_}
 use Prim.Native.Nat.{_≤_}
-use lib.IntN.{ℤ, natAbs, _+ℤ_}
+use lib.IntN.{ℤ, natAbs, _+ℤ_, _-ℤ_}
 use mir.Syntax.{w64}
 use mir.Val.{SFits}
 use Rattle.integers.proofs.SignedCode.{code}
@@ -18,3 +18,9 @@ module _ (a b : ℤ) (h : natAbs a ≤ totalLimit) (k : natAbs b ≤ totalLimit)
 
   pub sum-is : i64 (i64 a +ℤ i64 b) ≡ a +ℤ b
   sum-is = is-plain operands (search code depth 40) tt
+
+  pub difference-fits : SFits w64 (i64 a -ℤ i64 b)
+  difference-fits = fits operands (search code depth 40) tt
+
+  pub difference-is : i64 (i64 a -ℤ i64 b) ≡ a -ℤ b
+  difference-is = is-plain operands (search code depth 40) tt

@@ -3,10 +3,10 @@ use mathlib.Core.Path.{_≡_, refl, sym, ap}
 use mathlib.Core.Bool.{Bool, true, false, _||_, cond}
 use mathlib.Core.List.{List, [], _∷_, _++_}
 use mathlib.Core.Logic.{_≢_}
-use Prim.Native.Nat.{ℕ, _*_, _%_, _≤_, zero-le}
+use Prim.Native.Nat.{ℕ, _*_, _%_, _<_, _≤_, zero-le}
 use native.Mathlib.Omega.{arith}
 use lib.Dec.{T, leb, ltb, eqb}
-use lib.ListN.{length, take, length-append}
+use lib.ListN.{length, getD, take, length-append}
 use lib.Seq.{length-take-le}
 use lib.IntN.{ℤ, natAbs}
 use borrow.Author.Tests.{ltb-false, le-ltb, eqb-false, ne-eqb}
@@ -21,10 +21,10 @@ use Rattle.outline.specs.declared.Sizes.{Sizes}
 use Rattle.outline.specs.EdgeSums.{Term, a2, x6, y6, xx12, xy24, yy12, six, openEdges, edges, sumOver, totalsOver, outlineTotals, over, exceed, outlineBounds}
 use Rattle.outline.specs.ListCall.{accepted, refused, points, numbers, outside, anyOutside, wrongLength, listCall}
 use Rattle.outline.specs.MapCall.{totalLimits}
-use Rattle.outline.specs.WalkCalls.{share}
+use Rattle.outline.specs.WalkCalls.{origin, share}
 use Rattle.outline.specs.private.Fit.{Fit}
 use Rattle.integers.proofs.Flags.{or-left, or-right, neither, none-of-six}
-use Rattle.outline.proofs.Every.{All, all-append, all-take}
+use Rattle.outline.proofs.Every.{All, all-append, all-at, all-take}
 use Rattle.outline.proofs.EdgeSumLaws.{coordinates, path, around}
 use Rattle.outline.proofs.IndexLaws.{points-numbers, length-numbers}
 
@@ -67,6 +67,10 @@ pub none-outside : (ps : List Position) → All Inside ps → anyOutside ps ≡ 
 unfolding anyOutside
 none-outside [] h = refl
 none-outside (p ∷ ps) h = neither (not-outside p (h .0)) (none-outside ps (h .1))
+
+-- Each point of a list that has none outside, by its index.
+pub point-inside : (ps : List Position) (k : ℕ) {p : Position} → anyOutside ps ≡ false → k < length ps → p ≡ getD ps k origin → outside p ≡ false
+point-inside ps k e h f = rw f (not-outside (getD ps k origin) (all-at Inside ps k origin (all-inside ps e) h))
 
 -- ---- what the list call accepts
 
