@@ -12,11 +12,10 @@ use lib.IntN.{ℤ}
 use Rattle.outline.specs.declared.Position.{Position}
 use Rattle.outline.specs.declared.Totals.{Totals}
 use Rattle.outline.specs.EdgeSums.{openEdges, sumOver, totalsOver, outlineTotals, zeros, plus, exceed}
-use Rattle.outline.specs.ListCall.{points, wrongLength, outside, anyOutside, listCall}
+use Rattle.outline.specs.ListCall.{points, wrongLength, anyOutside, listCall}
 use Rattle.outline.specs.MapCall.{totalLimits}
 use Rattle.outline.specs.WalkCalls.{origin, edgeTotals}
-use Rattle.outline.proofs.Every.{all-at}
-use Rattle.outline.proofs.Limits.{Inside, OutlineList, not-outside, accepts-only-outlines, first-fit}
+use Rattle.outline.proofs.Limits.{OutlineList, accepts-only-outlines, first-fit}
 use Rattle.outline.proofs.IndexLaws.{totals-next, totals-closing}
 use Rattle.outline_calls.proofs.Sizes.{share-within}
 
@@ -25,10 +24,6 @@ use Rattle.outline_calls.proofs.Sizes.{share-within}
 pub outline-list : (zs : List ℤ) → wrongLength zs ≡ false → anyOutside (points zs) ≡ false → OutlineList zs
 unfolding listCall
 outline-list zs e f = accepts-only-outlines zs (outlineTotals (points zs)) (rw (e, f)) .0
-
--- Each point is within the limits.
-pub point-inside : (zs : List ℤ) (k : ℕ) {p : Position} → OutlineList zs → k < length (points zs) → p ≡ getD (points zs) k origin → outside p ≡ false
-point-inside zs k o h e = rw e (not-outside (getD (points zs) k origin) (all-at Inside (points zs) k origin (o .outline .inside) h))
 
 -- The sum of the first edges can be added to.
 pub sum-within : (zs : List ℤ) (k : ℕ) {t : Totals} → OutlineList zs → k ≤ length (points zs) → t ≡ totalsOver (openEdges (take k (points zs))) → exceed totalLimits t ≡ false

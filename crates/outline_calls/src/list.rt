@@ -19,17 +19,13 @@ fn sum_edges(points: &[i32]) -> Totals
     ensures { λ r. ⌜ r ≡ outlineTotals (pointsOf (now (points .entry))) ⌝ }
 {
     let n = points.len() / 2;
-    let first = position_at(points, 0);
-    let mut last = first;
     let mut sum = ZEROS;
     let mut k = 1;
     while k < n {
-        let p = position_at(points, k);
-        sum = add_edge(sum, last, p);
-        last = p;
+        sum = add_edge(sum, position_at(points, k - 1), position_at(points, k));
         k += 1;
     }
-    add_edge(sum, last, first)
+    add_edge(sum, position_at(points, n - 1), position_at(points, 0))
 }
 
 // Two passes over the caller's own numbers: the limits, then the edges.

@@ -1,8 +1,10 @@
--- `outline_calls::list::sum_edges` meets its contract. The invariant: the open edges of the first k points are summed, and the last of these points is held.
-use mathlib.Core.Path.{_≡_}
+-- `outline_calls::list::sum_edges` meets its contract. The invariant: the open edges of the first k points are summed.
+use mathlib.Core.Path.{_≡_, sym, _∙_}
 use mathlib.Core.List.{List}
-use Prim.Native.Nat.{ℕ, _+_, _-_, _<_, _≤_}
+use Prim.Native.Nat.{ℕ, _/_, _-_, _<_, _≤_}
 use native.Mathlib.Omega.{arith}
+use borrow.Author.Needs.{needs}
+use lib.IntN.{ℤ}
 use lib.ListN.{length, getD, take}
 use Rattle.outline.specs.declared.Position.{Position}
 use Rattle.outline.specs.declared.Totals.{Totals}
@@ -10,51 +12,44 @@ use Rattle.outline.specs.EdgeSums.{openEdges, totalsOver}
 use Rattle.outline.specs.ListCall.{points as pointsOf}
 use Rattle.outline.specs.WalkCalls.{origin}
 use Rattle.outline.proofs.IndexLaws.{length-points}
-use Rattle.outline.proofs.Limits.{OutlineList}
-use Rattle.outline_calls.proofs.ListSteps.{outline-list, point-inside, sum-within, no-edges, edges-next, edges-closed}
+use Rattle.outline.proofs.Limits.{OutlineList, point-inside}
+use Rattle.outline_calls.proofs.ListSteps.{outline-list, sum-within, no-edges, edges-next, edges-closed}
 use Rattle.outline_calls.proofs.list.sum_edges.Statement.{statement}
 use Rattle.outline_calls.proofs.list.sum_edges.Tie as tie
 
 -- Of the points ps, the first k are walked.
-record Summed (ps : List Position) (last : Position) (sum : Totals) (k : ℕ) : Type 0 where
+record Summed (ps : List Position) (sum : Totals) (k : ℕ) : Type 0 where
+  is : sum ≡ totalsOver (openEdges (take k ps))
   some : 0 < k
   most : k ≤ length ps
-  end : last ≡ getD ps (k - 1) origin
-  is : sum ≡ totalsOver (openEdges (take k ps))
 
 abbrev Inv-loop : tie.InvT-loop
-Inv-loop points n first last₀ sum₀ k₀ last sum k = Summed (pointsOf points) last sum k
+Inv-loop points n sum₀ k₀ sum k = Summed (pointsOf points) sum k
 
 abbrev μ-loop : tie.MeasureT-loop
-μ-loop points n first last₀ sum₀ k₀ last sum k = n - k
+μ-loop points n sum₀ k₀ sum k = n - k
+
+abbrev numbers : tie.Start Inv-loop μ-loop → List ℤ
+numbers s = s .args .points .now
 
 -- The list is an outline's.
-accepted : (s : tie.Start Inv-loop μ-loop) → OutlineList (s .args .points .now)
-accepted s = outline-list (s .args .points .now) (s .pre .0) (s .pre .1)
-
-enough : (s : tie.Start Inv-loop μ-loop) → 6 ≤ length (s .args .points .now)
-enough s = let o = accepted s in omega (arith, o .outline .enough, length-points (s .args .points .now))
-
-position-at-requires : tie.Need-position-at-requires Inv-loop μ-loop
-position-at-requires c κs = omega (arith, enough c)
+accepted : (s : tie.Start Inv-loop μ-loop) → OutlineList (numbers s)
+accepted s = outline-list (numbers s) (s .pre .0) (s .pre .1)
 
 loop-holds : tie.Need-loop-holds Inv-loop μ-loop
-loop-holds c =
-    let zs = c .before .args .points .now in
-    record { some = omega arith; most = omega (arith, enough (c .before), length-points zs); end = c .position-at .ensures; is = no-edges (pointsOf zs) }
+loop-holds c = let enough = accepted c .outline .enough in record { is = no-edges (pointsOf (numbers c)); some = omega arith; most = omega arith }
 
-position-at-requires-2 : tie.Need-position-at-requires-2 Inv-loop μ-loop
-position-at-requires-2 c κs = omega arith
+sub-position-at : tie.Need-sub-position-at Inv-loop μ-loop
+sub-position-at c = let some = c .before .loop .inv .some in omega arith
 
 add-edge-requires : tie.Need-add-edge-requires Inv-loop μ-loop
 add-edge-requires c κs =
-    let looped = c .before .before in
-    let s = looped .before .before in
-    let zs = s .args .points .now in
+    let looped = c .before .before .before in
+    let s = looped .before in
+    let zs = numbers s in
     let at = looped .loop in
-    let o = accepted s in
     let few = length-points zs in
-    (sum-within zs (at .k) o (at .inv .most) (at .inv .is), (point-inside zs (at .k - 1) o (omega arith) (at .inv .end), point-inside zs (at .k) o (omega arith) (c .position-at2 .ensures)))
+    (sum-within zs (at .k) (accepted s) (at .inv .most) (at .inv .is), (point-inside (pointsOf zs) (at .k - 1) (s .pre .1) (omega arith) (c .before .position-at .ensures), point-inside (pointsOf zs) (at .k) (s .pre .1) (omega arith) (c .position-at2 .ensures)))
 
 add-k : tie.Need-add-k Inv-loop μ-loop
 add-k c = omega arith
@@ -64,34 +59,47 @@ loop-less c = omega arith
 
 loop-again : tie.Need-loop-again Inv-loop μ-loop
 loop-again c =
-    let looped = c .before .before .before in
-    let zs = looped .before .before .args .points .now in
+    let ended = c .before in
+    let looped = ended .before .before .before in
+    let zs = numbers (looped .before) in
     let at = looped .loop in
-    let here : at .k + 1 - 1 ≡ at .k = omega arith in
-    let p = c .before .position-at2 in
+    let few = length-points zs in
     record {
+      is = edges-next (pointsOf zs) (at .k) (at .inv .some) (omega arith) (ended .before .position-at .ensures) (ended .position-at2 .ensures) (at .inv .is) (c .add-edge .ensures);
       some = omega arith;
-      most = omega (arith, length-points zs);
-      end = rw here (p .ensures);
-      is = edges-next (pointsOf zs) (at .k) (at .inv .some) (omega (arith, length-points zs)) (at .inv .end) (p .ensures) (at .inv .is) (c .add-edge .ensures);
+      most = omega arith;
     }
+
+sub-position-at-2 : tie.Need-sub-position-at-2 Inv-loop μ-loop
+sub-position-at-2 c =
+    let s = c .before .before in
+    let enough = accepted s .outline .enough in
+    omega (arith, length-points (numbers s))
+
+-- All points are walked.
+whole : (c : tie.After-loop Inv-loop μ-loop) → c .before .loop .k ≡ length (numbers (c .before .before)) / 2
+whole c = omega (arith, c .before .loop .inv .most, length-points (numbers (c .before .before)))
+
+-- So the point that is read again is the last of them.
+last-is : (c : tie.After-position-at3 Inv-loop μ-loop) → c .position-at3 .result ≡ getD (pointsOf (numbers (c .before .before .before))) (c .before .before .loop .k - 1) origin
+last-is c = rw (whole (c .before)) (c .position-at3 .ensures)
 
 add-edge-requires-2 : tie.Need-add-edge-requires-2 Inv-loop μ-loop
 add-edge-requires-2 c κs =
-    let looped = c .before in
-    let s = looped .before .before in
-    let zs = s .args .points .now in
+    let looped = c .before .before .before in
+    let s = looped .before in
+    let zs = numbers s in
     let at = looped .loop in
-    let o = accepted s in
-    let few = length-points zs in
-    (sum-within zs (at .k) o (at .inv .most) (at .inv .is), (point-inside zs (at .k - 1) o (omega arith) (at .inv .end), point-inside zs 0 o (omega arith) (looped .before .position-at .ensures)))
+    let enough = accepted s .outline .enough in
+    (sum-within zs (at .k) (accepted s) (at .inv .most) (at .inv .is), (point-inside (pointsOf zs) (at .k - 1) (s .pre .1) (omega (arith, at .inv .most, at .inv .some)) (last-is (c .before)), point-inside (pointsOf zs) 0 (s .pre .1) (omega arith) (c .position-at4 .ensures)))
 
 returns : tie.Need-returns Inv-loop μ-loop
 returns c =
-    let looped = c .before .before in
-    let zs = looped .before .before .args .points .now in
+    let ended = c .before in
+    let looped = ended .before .before .before in
+    let zs = numbers (looped .before) in
     let at = looped .loop in
-    edges-closed (pointsOf zs) (at .k) (at .inv .some) (omega (arith, length-points zs)) (at .inv .end) (looped .before .position-at .ensures) (at .inv .is) (c .add-edge2 .ensures)
+    edges-closed (pointsOf zs) (at .k) (at .inv .some) (whole (ended .before .before) ∙ sym (length-points zs)) (last-is (ended .before)) (ended .position-at4 .ensures) (at .inv .is) (c .add-edge2 .ensures)
 
 pub sum-edges-spec : {M : Type 1} → statement M
 sum-edges-spec =
@@ -99,12 +107,16 @@ sum-edges-spec =
     (tie.spec
     Inv-loop
     μ-loop
-    position-at-requires
     loop-holds
-    position-at-requires-2
+    sub-position-at
+    (λ c κs. search needs)
+    (λ c κs. search needs)
     add-edge-requires
     add-k
     loop-less
     loop-again
+    sub-position-at-2
+    (λ c κs. search needs)
+    (λ c κs. search needs)
     add-edge-requires-2
     returns)
