@@ -1,0 +1,3 @@
+mod DistanceSteps
+mod FigureCases
+pub mod ReadingLaws
