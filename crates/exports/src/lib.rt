@@ -1,6 +1,6 @@
 // Calls for programs in other languages: the static library defines each under its plain name. A number passes as itself, a list or a buffer as a pointer and then a
-// length. Each answers 0 or the number of a refusal, with zeros for totals, centre or count, or 100 where the buffer is too short. Thin: the calls on
-// outlines hand on to outline_replies, and mavrihkel_mask_totals to mask_replies; mavrihkel_region_totals asks cells and has region_replies write the answer,
+// length. Each answers 0; or the number of a refusal, with zeros for its values; or 100 where the buffer is too short. Thin: the calls on one
+// outline hand on to outline_replies, mavrihkel_compare_walks to comparison_replies, and mavrihkel_mask_totals to mask_replies; mavrihkel_region_totals asks cells and has region_replies write the answer,
 // and mavrihkel_mask_runs asks masks and has mask_replies write it. Since document 02, CR 2, cells have the totals of their ground: the names of before,
 // mavrihkel_region_sums and mavrihkel_mask_sums, are not used again, so that an old program fails to link instead of reading other figures.
 ghost use mathlib.Core.Path.{_≡_};
@@ -8,6 +8,8 @@ ghost use Rattle.outline.specs.ListCall.{listCall};
 ghost use Rattle.outline.specs.MapCall.{mapCall};
 ghost use Rattle.centroid.specs.Centroid.{outlineCentroidCall};
 ghost use Rattle.outline_replies.specs.OutlineReply.{totalsReply, centreReply};
+ghost use Rattle.two_walks.specs.Comparison.{figuresCall, partOf};
+ghost use Rattle.comparison_replies.specs.ComparisonReply.{comparisonReply};
 ghost use Rattle.region_replies.specs.RegionReply.{RegionReplies};
 ghost use Rattle.mask_cells.specs.MaskCalls.{maskTotalsCall, maskRunsCall};
 ghost use Rattle.mask_replies.specs.MaskReply.{maskRunsReply};
@@ -77,6 +79,19 @@ pub extern "C" fn mavrihkel_outline_centroid(
         yy12,
     };
     outline_replies::outline_centroid_reply(t, out)
+}
+
+// The comparison of two walks, each x and y in turn: 0, 1 or 2, and ten values: the six differences, first minus second, the squared distances from the first's points to the second
+// and from the second's to the first, which list is handed back, and how many numbers of it.
+#[no_mangle]
+pub extern "C" fn mavrihkel_compare_walks<'a>(
+    first: &'a [i32],
+    second: &'a [i32],
+    out: &mut [i64],
+) -> u32
+    ensures { λ r. ⌜ record { number = r; buffer = now (out .exit) } ≡ comparisonReply (figuresCall (now (first .entry)) (now (second .entry))) (partOf (now (first .entry)) (now (second .entry))) (now (out .entry)) ⌝ }
+{
+    comparison_replies::compare_walks_reply(first, second, out)
 }
 
 // The call on a list of runs: 0, 6, 7 or 8, the six totals of the ground under its cells, and with 6 or 7 the index of a run that breaks it.

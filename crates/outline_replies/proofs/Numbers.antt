@@ -17,7 +17,7 @@ use Rattle.replies.specs.Reply.{shortBuffer}
 use Rattle.replies.proofs.ShortBuffer.{only-short}
 use Rattle.outline_replies.specs.OutlineReply.{totalsReply, centreReply}
 
-list-number : (zs : List ℤ) → listCall zs .number < shortBuffer
+pub list-number : (zs : List ℤ) → listCall zs .number < shortBuffer
 unfolding listCall
 list-number zs = by-tests (wrongLength zs) (anyOutside (points zs)) (outlineTotals (points zs))
   where
