@@ -7,7 +7,6 @@ compared byte by byte.  Exits 1 with a small input on a difference, and 1 if
 some refusal number that can arise was not seen, or rings of some kind walked one of
 the two ways.
 """
-import argparse
 import fcntl
 import random
 import re
@@ -21,6 +20,7 @@ import threading
 import time
 
 import text
+from beside import chosen_options
 from figures import ACCEPTED, Kind, closed_totals
 from inputs import fixed_inputs
 from limits import byte_limit_inputs, endless_inputs, line_limit_inputs, long_inputs
@@ -222,12 +222,7 @@ def ends_without_end_of_input(command):
 
 def main():
     """Run every input; answer the exit status."""
-    parser = argparse.ArgumentParser(description="Set a text program beside the second program.")
-    parser.add_argument("program")
-    parser.add_argument("--seed", type=int, default=1)
-    parser.add_argument("--cases", type=int, default=200)
-    parser.add_argument("--long", action="store_true")
-    chosen = parser.parse_args()
+    chosen = chosen_options("Set a text program beside the second program.")
     command = shlex.split(chosen.program)
     rng = random.Random(chosen.seed)
     inputs = lines = 0

@@ -6,13 +6,12 @@ PROGRAM is callers/c/masks.c, built with the library: that file says what it rea
 and prints.  Every record of the caller's list afterwards is compared, and one behind
 its end.  Exits 1 with the first difference, and 1 if some number was not seen.
 """
-import argparse
 import random
-import subprocess
 import sys
 from array import array
 from typing import NamedTuple
 
+from beside import chosen_options, differs, exit_status, line, shortened
 from cells import Run
 from madeup_masks import large_masks, list_length, random_mask
 from masks import mask_runs, mask_totals
@@ -22,8 +21,6 @@ TOTALS_NUMBERS = {0, 31}
 RUNS_NUMBERS = {0, 8, 31}
 WORD_BEHIND = 2 ** 64 - 1    # behind the end of the words, where no call may read
 WRONG_LENGTHS = (1, 8, 15, 17, 24, 16_376, 16_383, 16_385, 16_400)
-RUN_SECONDS = 120
-SHOWN = 160
 
 
 class Case(NamedTuple):
@@ -78,11 +75,6 @@ def as_bytes(case):
     return lengths.tobytes() + array("Q", [*case.words, WORD_BEHIND]).tobytes() + numbers.tobytes()
 
 
-def line(*numbers):
-    """One line of the program."""
-    return " ".join(map(str, numbers))
-
-
 def wanted_lines(case):
     """What the program is to print: a line for the totals, one for the runs."""
     *handed_in, behind = case.records
@@ -92,65 +84,26 @@ def wanted_lines(case):
     return [line(number, *totals), line(writer_number, count, *(number for record in afterwards for number in record))]
 
 
-def printed_by(program, cases):
-    """The lines that the program prints for the cases, and how it ended."""
-    done = subprocess.run([program], input=b"".join(map(as_bytes, cases)), stdout=subprocess.PIPE,
-                          timeout=RUN_SECONDS)
-    return done.stdout.decode("ascii").splitlines(), done.returncode
-
-
 # Reporting
 
-def shortened(text):
-    """The front of a line."""
-    return text if len(text) <= SHOWN else f"{text[:SHOWN]} .. ({len(text)} characters)"
-
-
-def show_difference(case, wanted, got):
-    """The mask, and both lines from shortly before they differ."""
+def told(case):
+    """The mask in words."""
     marked = [f"word {k}: {word:#x}" for k, word in enumerate(case.words) if word != 0]
-    print(f"DIFFERENCE on: {case.name}: {len(case.words)} words, a list of {len(case.records) - 1} records\n"
-          f"    {shortened(', '.join(marked)) or 'no bit is a one'}")
-    same = 0
-    wanted, got = wanted.split(), got.split()
-    while same < min(len(wanted), len(got)) and wanted[same] == got[same]:
-        same += 1
-    start = max(0, same - 6)
-    print(f"field {same} differs, shown from field {start}\n"
-          f"    second program: {shortened(line(*wanted[start:]))}\n    program:        {shortened(line(*got[start:]))}")
-
-
-def first_difference(cases, wanted, got):
-    """Show the first line that differs; answer whether there is one."""
-    for place, lines in enumerate(zip(wanted, got)):
-        if lines[0] != lines[1]:
-            show_difference(cases[place // 2], *lines)
-            return True
-    return False
+    return (f"{case.name}: {len(case.words)} words, a list of {len(case.records) - 1} records\n"
+            f"    {shortened(', '.join(marked)) or 'no bit is a one'}")
 
 
 def main():
     """Run every case; answer the exit status."""
-    parser = argparse.ArgumentParser(description="Set the mask calls beside the second program.")
-    parser.add_argument("program")
-    parser.add_argument("--seed", type=int, default=1)
-    parser.add_argument("--cases", type=int, default=200)
-    parser.add_argument("--long", action="store_true")
-    chosen = parser.parse_args()
+    chosen = chosen_options("Set the mask calls beside the second program.")
     cases = list(all_cases(random.Random(chosen.seed), chosen.cases, chosen.long))
     wanted = [text for case in cases for text in wanted_lines(case)]
-    got, status = printed_by(chosen.program, cases)
-    if first_difference(cases, wanted, got):
-        return 1
-    if status != 0 or len(got) != len(wanted):
-        print(f"the program ended with {status} after {len(got)} of {len(wanted)} lines")
+    if differs(chosen.program, b"".join(map(as_bytes, cases)), wanted, lambda place: told(cases[place // 2])):
         return 1
     numbers = [int(text.split()[0]) for text in wanted]
     missing = (TOTALS_NUMBERS - set(numbers[0::2]), RUNS_NUMBERS - set(numbers[1::2]))
-    print(f"{len(cases)} masks, no difference; {numbers[1::2].count(0)} written, "
-          f"{numbers[1::2].count(8)} refused with 8, {numbers[1::2].count(31)} with 31"
-          + (f"; NOT SEEN: {missing}" if any(missing) else ""))
-    return 1 if any(missing) else 0
+    return exit_status(f"{len(cases)} masks, no difference; {numbers[1::2].count(0)} written, "
+                       f"{numbers[1::2].count(8)} refused with 8, {numbers[1::2].count(31)} with 31", missing)
 
 
 if __name__ == "__main__":

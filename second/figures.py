@@ -1,9 +1,9 @@
 """Outlines, walks, sheets and centres of document 01, straight from its rules; islands
 and holes as CR 3 of document 02 has them.
 
-Maps and cuts are in moves.py, cells in cells.py.  Whole numbers only.  Every call
-answers a refusal number first; 0 means that the call was accepted.  A refused call
-answers zeros and changes nothing.
+Maps and cuts are in moves.py, cells in cells.py, two walkers in walkers.py.  Whole
+numbers only.  Every call answers a refusal number first; 0 means that the call was
+accepted.  A refused call answers zeros and changes nothing.
 """
 from enum import Enum
 from operator import add, gt, neg
@@ -104,11 +104,16 @@ def within_limits(place):
             and -COORDINATE_LIMIT <= y <= COORDINATE_LIMIT)
 
 
+def points_of(numbers):
+    """The points of a list of numbers, x and y in turn."""
+    return list(zip(numbers[0::2], numbers[1::2]))
+
+
 def list_call(numbers):
     """A whole outline as one list, x and y in turn: (number, totals).  Order 2, 1."""
     if len(numbers) % 2 != 0 or not LEAST_POINTS <= len(numbers) // 2 <= MOST_POINTS:
         return 2, ZERO_TOTALS
-    points = list(zip(numbers[0::2], numbers[1::2]))
+    points = points_of(numbers)
     if not all(within_limits(place) for place in points):
         return 1, ZERO_TOTALS
     return ACCEPTED, outline_totals(points)

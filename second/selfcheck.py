@@ -1,6 +1,7 @@
 """Checks of this program by itself: the listing and the ✱ rows of document 01,
 corner cases of its rules, and its laws on made-up outlines; those of islands and
-holes are in selfcheck_rings.py, those of cells and masks in selfcheck_cells.py.
+holes are in selfcheck_rings.py, those of cells and masks in selfcheck_cells.py, those of
+two walkers in selfcheck_walkers.py.
 
 Runnable; prints what fails and exits 1, else prints how many checks passed.
 """
@@ -19,6 +20,7 @@ from moves import AffineMap, Cut
 from moves import after_cuts, map_call, moved, started_at, walked_backwards
 from selfcheck_cells import check_mask_corners, check_mask_laws, check_region_corners, check_worked_regions
 from selfcheck_rings import check_end_order, check_kinds, check_ring_laws, check_turns, check_worked_rings
+from selfcheck_walkers import check_refused_pair, check_walker_corners, check_walker_laws, check_worked_walks
 from worked import numbers_of, walked
 
 LISTING_OUTPUT = ("O 1 4 80 1200 960 14720 21120 8960 5 4",
@@ -175,6 +177,8 @@ if __name__ == "__main__":
     check_worked_regions()
     check_region_corners()
     check_mask_corners()
+    check_worked_walks()
+    check_walker_corners()
     made_up = random.Random(1)
     for _ in range(200):
         reach = made_up.choice([2, 30, 500, 2000])
@@ -184,6 +188,9 @@ if __name__ == "__main__":
         check_text_beside_calls(made_up)
     for _ in range(100):
         check_mask_laws(made_up)
+    for _ in range(200):
+        check_walker_laws(made_up)
+        check_refused_pair(made_up)
     for failure in failed:
         print(failure)
     print(f"{len(passed)} checks passed, {len(failed)} failed")

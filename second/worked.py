@@ -1,13 +1,15 @@
-"""The rows of "Plots worked by hand" in document 01 that carry no ✱, then rings and masks of document 02, one line each.
+"""The rows of "Plots worked by hand" in document 01 that carry no ✱, then rings, masks and pairs of walks of document 02,
+one line each.
 
 Fields are separated by tabs: label, what was asked, refusal number (0 if accepted), values.
 """
 from cells import Run, region_totals
 from figures import CLOSED_WALK, FRESH_ISLAND, NEW_SHEET, TOTAL_LIMIT, ZERO_TOTALS
 from figures import Kind, Sheet, begin, end, list_call, point
-from inputs import SQUARE
+from inputs import RECTANGLE, SQUARE
 from masks import MOST_WORDS, WORDS_IN_A_ROW, mask_runs, mask_totals
 from moves import AffineMap, map_call
+from walkers import compare_walks
 
 DOUBLING = AffineMap(a=2, b=0, g=0, h=2, e=0, f=0)
 
@@ -18,6 +20,9 @@ MOST_MASK_RUNS = [0x5555555555555555] * (8 * WORDS_IN_A_ROW)
 ONE_RUN_MORE = MOST_MASK_RUNS + [1, *[0] * 15]
 # What every record of a caller's list is before the writer is called.
 RECORD_BEFORE = Run(row=7, first=8, length=9)
+
+# Another walk of the rectangle, with one point more.
+OTHER_WALK = [(2, 0), (10, 4), (9, 8), (1, 5), (0, 4)]
 
 
 def numbers_of(points):
@@ -139,6 +144,31 @@ def mask_rows():
     yield mask_last_row(all_ones(MOST_WORDS + 16), 1025)
 
 
+# Two walkers' lists by name.  The last three are refused: with 1, with 2, with 1.
+WALKS = {"rectangle": numbers_of(RECTANGLE),
+         "other-walk": numbers_of(OTHER_WALK),
+         "outside": numbers_of([(0, 0), (2001, 0), (0, 5)]),
+         "odd": [0, 0, 1, 0, 1, 1, 0],
+         "far": numbers_of([(0, 0), (5000, 0), (0, 5)])}
+
+
+def compare_row(first, second):
+    """Two lists compared.  Asked: their names.  Answered: number, six differences, the distance from the first's points
+    to the second's and the one from the second's to the first's, which list is handed back, how many numbers of it."""
+    return ["compare", first, second, *compare_walks(WALKS[first], WALKS[second]).fields()]
+
+
+def compare_rows():
+    """The fields of the rows of two walks: both orders, one list twice, and what is refused first."""
+    yield compare_row("rectangle", "other-walk")
+    yield compare_row("other-walk", "rectangle")
+    yield compare_row("rectangle", "rectangle")
+    yield compare_row("outside", "odd")
+    yield compare_row("odd", "far")
+    yield compare_row("rectangle", "outside")
+    yield compare_row("other-walk", "odd")
+
+
 def rows():
     """The fields of every row."""
     yield limit_row(2000)
@@ -155,6 +185,7 @@ def rows():
     yield walk_row(3, 24_000_001)
     yield from ring_rows()
     yield from mask_rows()
+    yield from compare_rows()
 
 
 if __name__ == "__main__":

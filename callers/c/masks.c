@@ -3,21 +3,14 @@
  *
  * A case is, without anything between them: two 64-bit numbers, the lengths of the words and of the list; the words and one word more; the records of the list and one record more. Neither of
  * these two is the calls' to read or to write. The lines are the number and the six totals; the number, how many runs were written, and every record afterwards, that behind the list's end too.
- * Ends with 1 if the input breaks off within a case.
+ * Ends with 1 if the input ends before the lists of a case do.
  */
 #include <inttypes.h>
 #include <stdio.h>
 #include <stdlib.h>
 
+#include "cases.h"
 #include "mavrihkel.h"
-
-/* As many entries as are wanted, and one more, from standard input. */
-static void *read_entries(size_t size, uint64_t count)
-{
-    void *entries = malloc((count + 1) * size);
-    if (entries == NULL || fread(entries, size, count + 1, stdin) != count + 1) exit(1);
-    return entries;
-}
 
 /* The totals of a mask as a line. */
 static void print_totals(const uint64_t *words, size_t length)

@@ -1,7 +1,9 @@
-// Document 01, "Plots worked by hand": the plots that carry no ✱, and rings and masks of document 02, run through the proved functions. Each prints a row: label, what was asked, number of
-// the refusal (0 where accepted) and values, separated by tabs, as second/worked.py prints them too. The plots marked ✱ are rows of worked_rows/specs/Rows.antt.
+// Document 01, "Plots worked by hand": the plots that carry no ✱, and rings, masks and compared walks of document 02, run through the proved functions. Each prints a
+// row: label, what was asked, number of the refusal (0 where accepted) and values, separated by tabs, as second/worked.py prints them too. The plots marked ✱ are rows of
+// worked_rows/specs/Rows.antt.
 ghost use Prim.Native.Nat.{_≤_};
 
+mod compare_rows;
 mod mask_rows;
 mod plots;
 mod ring_rows;
@@ -113,4 +115,5 @@ fn main() {
     walk_row(3, 24_000_001);
     ring_rows::ring_rows();
     mask_rows::mask_rows();
+    compare_rows::compare_rows();
 }

@@ -6,6 +6,11 @@ pub(crate) fn show_label(label: &[u8]) {
     io::write_all(1, label);
 }
 
+pub(crate) fn show_word(word: &[u8]) {
+    io::write_all(1, b"\t");
+    io::write_all(1, word);
+}
+
 pub(crate) fn show_natural(n: u64) {
     io::write_all(1, b"\t");
     io::print_decimal(1, n);
@@ -27,10 +32,10 @@ pub(crate) fn show_coordinate(x: i32) {
 pub(crate) fn show_kind(kind: Kind) {
     match kind {
         Kind::Island => {
-            io::write_all(1, b"\tisland");
+            show_word(b"island");
         }
         Kind::Hole => {
-            io::write_all(1, b"\thole");
+            show_word(b"hole");
         }
     }
 }

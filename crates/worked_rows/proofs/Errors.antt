@@ -1,9 +1,9 @@
--- Document 01, "Errors a surveyor would not notice", and errors with cells as ground: what each makes of a plot whose right figure stands in specs/Rows, by
--- computation.
+-- Document 01, "Errors a surveyor would not notice", and errors with cells as ground and with two walkers: what each makes of a plot whose right figure stands in
+-- specs/Rows, by computation.
 use Prim.Native.Nat.{ℕ, _+_, _*_, _/_}
 use mathlib.Core.Path.{_≡_, refl}
 use mathlib.Core.Bool.{cond}
-use mathlib.Core.List.{List, [], _∷_}
+use mathlib.Core.List.{List, [], _∷_, zipWith}
 use lib.IntN.{ℤ, pos, negℤ, natAbs, _+ℤ_, _*ℤ_}
 use lib.Signed.{ltZ}
 use Rattle.outline.specs.EdgeSums.{Term, a2, openEdges, edges, sumOver, over}
@@ -11,10 +11,11 @@ use Rattle.outline.specs.ListCall.{points, numbers, outside, anyOutside, wrongL
 use Rattle.outline.specs.MapCall.{brackets}
 use Rattle.outline.specs.Pieces.{totalsOf}
 use Rattle.outline.specs.declared.Position.{Position}
+use Rattle.two_walks.specs.Distances.{squaredDistance, greatestOf}
 use Rattle.cell_ground.specs.CellSums.{CellSums, sumsOver}
 use Rattle.centroid.specs.Centroid.{isCentre, firstCentre, centre}
 use Rattle.cells.specs.RunCells.{cellsFrom, cellsOf}
-use Rattle.worked_rows.specs.Rows.{rectangle, repeatedFirst, triangle, unitSquare, mirror, shortRun}
+use Rattle.worked_rows.specs.Rows.{rectangle, repeatedFirst, triangle, unitSquare, mirror, shortRun, inStep, outOfStep}
 
 -- Halved, and the rest dropped.
 abbrev halved : Term → Term
@@ -85,3 +86,19 @@ mistaken-ground =
       cells-as-points = (refl, refl);
       bounding-box = refl;
     }
+
+-- ---- two walkers, document 02, CR 5
+
+-- Each point beside the one at the same place of the other walk, and not beside the nearest.
+abbrev byPlace : List Position → List Position → ℕ
+byPlace ps qs = greatestOf (zipWith squaredDistance ps qs)
+
+record MistakenDistance : Type 0 where
+  -- The distance is 0.
+  paired-by-place : byPlace rectangle outOfStep ≡ 80
+  -- It is 1. For walkers in step the error does not show.
+  in-step : byPlace rectangle inStep ≡ 1
+
+mistaken-distance : MistakenDistance
+unfolding zipWith squaredDistance greatestOf
+mistaken-distance = record { paired-by-place = refl; in-step = refl }

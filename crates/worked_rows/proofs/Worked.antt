@@ -7,12 +7,14 @@ use Rattle.outline.specs.Pieces.{neighbours, canCut, cutOnce, cutAll}
 use Rattle.outline.specs.WalkCalls.{extended, hasSign, turned, zeroArea, impossibleWalk, impossibleSheet, beginCall, pointCall, endCall}
 use Rattle.outline.specs.CallLists.{numberOf, walkAfter, ringWith, next, after, sheetAfter}
 use Rattle.outline.proofs.Every.{All}
+use Rattle.two_walks.specs.Distances.{squaredDistance, leastOf, greatestOf, toNearest, squaredHausdorff}
+use Rattle.two_walks.specs.Comparison.{comparisonNumber, figuresCall, partOf}
 use Rattle.centroid.specs.Centroid.{isCentre, firstCentre, centre, signedBy, outlineCentroidCall}
 use Rattle.cell_ground.specs.CellSums.{sumsOver}
 use Rattle.cell_ground.specs.Ground.{groundOf}
 use Rattle.cells.specs.RunCells.{cellsFrom, cellsOf, allCells}
 use Rattle.cells.specs.RegionCall.{badRun, anyBad, liesAfter, disordered, tooMany, regionCall}
-use Rattle.worked_rows.specs.Rows.{holds, rows, ringRows, errorRows}
+use Rattle.worked_rows.specs.Rows.{holds, rows, ringRows, walkRows, errorRows}
 
 pub worked : All holds rows
 unfolding openEdges edges sumOver over exceed points numbers outside anyOutside wrongLength listCall disallowed mapCall neighbours canCut cutOnce cutAll isCentre firstCentre centre signedBy outlineCentroidCall cellsFrom cellsOf allCells sumsOver groundOf badRun anyBad disordered tooMany regionCall holds
@@ -23,7 +25,12 @@ pub ring-rows : All holds ringRows
 unfolding over exceed outside extended hasSign turned zeroArea impossibleWalk impossibleSheet beginCall pointCall endCall numberOf walkAfter ringWith next after sheetAfter holds
 ring-rows = (refl, (refl, (refl, (refl, (refl, (refl, (refl, (refl, (refl, (refl, (refl, tt)))))))))))
 
+-- The two walkers of document 02, CR 5.
+pub walk-rows : All holds walkRows
+unfolding openEdges edges sumOver over points numbers outside anyOutside wrongLength listCall squaredDistance leastOf greatestOf toNearest squaredHausdorff comparisonNumber figuresCall partOf holds
+walk-rows = (refl, (refl, (refl, (refl, (refl, (refl, (refl, (refl, (refl, (refl, tt))))))))))
+
 -- The rows for "Errors a surveyor would not notice".
 pub error-rows : All holds errorRows
-unfolding openEdges edges sumOver over exceed points numbers outside anyOutside wrongLength listCall disallowed mapCall isCentre firstCentre centre signedBy outlineCentroidCall cellsFrom cellsOf allCells sumsOver groundOf badRun anyBad liesAfter disordered tooMany regionCall holds
-error-rows = (refl, (refl, (refl, (refl, (λ index. refl, (λ index. refl, (λ index. refl, tt)))))))
+unfolding openEdges edges sumOver over exceed points numbers outside anyOutside wrongLength listCall disallowed mapCall isCentre firstCentre centre signedBy outlineCentroidCall cellsFrom cellsOf allCells sumsOver groundOf badRun anyBad liesAfter disordered tooMany regionCall squaredDistance leastOf greatestOf toNearest squaredHausdorff comparisonNumber figuresCall holds
+error-rows = (refl, (refl, (refl, (refl, (λ index. refl, (λ index. refl, (λ index. refl, (refl, tt))))))))

@@ -1,7 +1,8 @@
 -- Document 01, "Plots worked by hand": the plots marked ✱ as one list of rows, each what is asked and the figures that are answered, the run's as document 02,
--- CR 2, has them; the rings of document 02, CR 3; and rows for "Errors a surveyor would not notice".
+-- CR 2, has them; the rings of document 02, CR 3, and its two walkers, CR 5; and rows for "Errors a surveyor would not notice".
 use Prim.Native.Nat.{ℕ}
 use mathlib.Core.Path.{_≡_}
+use mathlib.Core.Bool.{true, false}
 use mathlib.Core.List.{List, [], _∷_, _++_, map, reverse}
 use lib.IntN.{ℤ, pos, negℤ}
 use Rattle.outline.specs.declared.Kind.the-variants.{Island, Hole}
@@ -13,10 +14,11 @@ use Rattle.outline.specs.declared.Sheet.{Sheet}
 use Rattle.outline.specs.EdgeSums.{zeros}
 use Rattle.outline.specs.ListCall.{Outcome, accepted, refused as notAccepted, numbers, listCall}
 use Rattle.outline.specs.MapCall.{mapCall}
-use Rattle.outline.specs.Pieces.{Piece, Cut, piecesOf, totalsOf}
+use Rattle.outline.specs.Pieces.{Piece, Cut, piecesOf, startAt, totalsOf}
 use Rattle.outline.specs.WalkCalls.{closed, sheetOf, newSheet, endCall}
 use Rattle.outline.specs.CallLists.{Ring, after, from, sheetAfter}
 use Rattle.outline.specs.EveryOutline.{ringCalls}
+use Rattle.two_walks.specs.Comparison.{FiguresOutcome, figuresCall, Part, partOf}
 use Rattle.centroid.specs.Centroid.{CentroidOutcome, refused, outlineCentroidCall}
 use Rattle.cells.specs.declared.Run.{Run}
 use Rattle.cells.specs.RegionCall.{RegionOutcome, regionCall}
@@ -36,6 +38,10 @@ pub data Row : Type 0 where
   ring : Ring → Outcome → Row
   -- The sheet that the ends of rings leave, one after another from a new sheet on.
   sheet : List Ring → Sheet → Row
+  -- The figures that compare two walks, the first list and the second.
+  figures : List ℤ → List ℤ → FiguresOutcome → Row
+  -- The part of the two lists that is handed back.
+  part : List ℤ → List ℤ → Part → Row
   -- The call on a list of runs.
   region : List Run → RegionOutcome → Row
   -- The centre of the totals that it answers.
@@ -59,6 +65,8 @@ holds (mapping m ps answer) = mapCall m (totalsOf ps) ≡ answer
 holds (cut ps c answers) = map areaAndX6 (piecesOf ps (c ∷ [])) ≡ answers
 holds (ring g answer) = endOf g ≡ answer
 holds (sheet gs answer) = sheetAfter newSheet (map walkedRing gs) ≡ answer
+holds (figures first second answer) = figuresCall first second ≡ answer
+holds (part first second answer) = partOf first second ≡ answer
 holds (region rs answer) = (index : ℕ) → regionCall rs index ≡ answer
 holds (regionCentre rs answer) = (index : ℕ) → outlineCentroidCall (regionCall rs index .totals) ≡ answer
 
@@ -157,6 +165,57 @@ ringRows =
     ∷ sheet (island rectangle ∷ hole rectangle ∷ []) (sheetOf 2 zeros)
     ∷ []
 
+-- ---- the two walkers of document 02, CR 5
+
+-- The rectangle by another walker: a corner further east, and a point more near the last.
+abbrev pub otherWalk : List Position
+otherWalk = at (pos 2) (pos 0) ∷ at (pos 10) (pos 4) ∷ at (pos 9) (pos 8) ∷ at (pos 1) (pos 5) ∷ at (pos 0) (pos 4) ∷ []
+
+-- The rectangle with that corner alone further east, point by point as the rectangle.
+abbrev pub inStep : List Position
+inStep = at (pos 2) (pos 0) ∷ at (pos 10) (pos 4) ∷ at (pos 9) (pos 8) ∷ at (pos 0) (pos 4) ∷ []
+
+-- Refused alone with 1, with 2 and with 1.
+abbrev outsideLimits : List ℤ
+outsideLimits = map pos (0 ∷ 0 ∷ 2001 ∷ 0 ∷ 0 ∷ 5 ∷ [])
+
+abbrev oddLength : List ℤ
+oddLength = map pos (0 ∷ 0 ∷ 1 ∷ 0 ∷ 1 ∷ 1 ∷ 0 ∷ [])
+
+abbrev farOutside : List ℤ
+farOutside = map pos (0 ∷ 0 ∷ 5000 ∷ 0 ∷ 0 ∷ 5 ∷ [])
+
+abbrev compared : Totals → ℕ → ℕ → FiguresOutcome
+compared differences forward backward = record { number = 0; figures = record { differences = differences; forward = forward; backward = backward } }
+
+abbrev notCompared : ℕ → FiguresOutcome
+notCompared n = record { number = n; figures = record { differences = zeros; forward = 0; backward = 0 } }
+
+-- What is handed back: the first walk whole, the second, or nothing of the first.
+abbrev theFirst : List Position → Part
+theFirst ps = record { ofSecond = false; numbers = numbers ps }
+
+abbrev theSecond : List Position → Part
+theSecond ps = record { ofSecond = true; numbers = numbers ps }
+
+abbrev emptyStart : Part
+emptyStart = record { ofSecond = false; numbers = [] }
+
+-- The rectangle and the other walk, in either order; walks of as many points; and which refusal comes first.
+abbrev pub walkRows : List Row
+walkRows =
+    figures (numbers rectangle) (numbers otherWalk) (compared (totals (minus 5) (minus 90) (minus 85) (minus 1535) (minus 2195) (minus 985)) 1 2)
+    ∷ part (numbers rectangle) (numbers otherWalk) (theSecond otherWalk)
+    ∷ figures (numbers otherWalk) (numbers rectangle) (compared (totals (pos 5) (pos 90) (pos 85) (pos 1535) (pos 2195) (pos 985)) 2 1)
+    ∷ part (numbers otherWalk) (numbers rectangle) (theFirst otherWalk)
+    ∷ figures (numbers rectangle) (numbers inStep) (compared (totals (pos 0) (minus 40) (pos 0) (minus 1080) (minus 960) (pos 0)) 1 1)
+    ∷ part (numbers rectangle) (numbers inStep) (theFirst rectangle)
+    ∷ figures outsideLimits oddLength (notCompared 1)
+    ∷ part outsideLimits oddLength emptyStart
+    ∷ figures oddLength farOutside (notCompared 2)
+    ∷ part oddLength farOutside emptyStart
+    ∷ []
+
 -- ---- rows for the errors that a surveyor would not notice; what each error makes of its plot is in proofs/Errors
 
 -- The first point again at the end, where a closing edge left out does not show.
@@ -179,6 +238,10 @@ mirror = record { a = minus 1; b = pos 0; g = pos 0; h = pos 1; e = pos 0; f = p
 abbrev pub corner : List Run
 corner = record { row = 0; first = 0; length = 3 } ∷ record { row = 1; first = 0; length = 1 } ∷ []
 
+-- The rectangle from its second point on: each point is a point of the rectangle, and none stands at the same place of the list.
+abbrev pub outOfStep : List Position
+outOfStep = startAt 1 rectangle
+
 abbrev pub errorRows : List Row
 errorRows =
     list repeatedFirst (accepted (totals (pos 80) (pos 1200) (pos 960) (pos 14720) (pos 21120) (pos 8960)))
@@ -188,4 +251,5 @@ errorRows =
     ∷ region corner (regionOf (totals (pos 8) (pos 30) (pos 18) (pos 112) (pos 72) (pos 40)))
     ∷ regionCentre corner (centreAt (pos 1) (pos 1))
     ∷ regionCentre [] (refused 27)
+    ∷ figures (numbers rectangle) (numbers outOfStep) (compared zeros 0 0)
     ∷ []
