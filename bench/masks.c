@@ -4,15 +4,10 @@
  * up the sums of 1, x, y, x², xy and y², and makes totals of them once, at the end. All test the lengths and refuse as the library does. Each time is the least of ROUNDS, in which the calls take turns on
  * the same mask. Ends with 1 if two of them answer differently. bench/run.py builds it with the library.
  */
-#include <stdint.h>
-#include <stdio.h>
-#include <stdlib.h>
-#include <string.h>
-#include <time.h>
-
 #include "../callers/c/mavrihkel.h"
+#include "timing.h"
 
-enum { ROWS = 1024, WORDS_IN_A_ROW = 16, WORDS = ROWS * WORDS_IN_A_ROW, COLUMNS = 1024, MOST_RUNS = 4096, SUMS = 6, CALLS = 3, ROUNDS = 40, TIMES = 5 };
+enum { ROWS = 1024, WORDS_IN_A_ROW = 16, WORDS = ROWS * WORDS_IN_A_ROW, COLUMNS = 1024, MOST_RUNS = 4096, SUMS = 6, TIMES = 5 };
 
 typedef uint32_t totals_call(const uint64_t *words, size_t words_length, int64_t *out, size_t out_length);
 typedef uint32_t runs_call(const uint64_t *words, size_t words_length, struct mavrihkel_run *runs, size_t runs_length, int64_t *out, size_t out_length);
@@ -179,15 +174,6 @@ __attribute__((noinline)) static uint32_t bit_runs(const uint64_t *words, size_t
 
 static uint64_t mask[WORDS];
 
-static uint64_t random_word(void)
-{
-    static uint64_t state = 14;
-    uint64_t z = state += UINT64_C(0x9e3779b97f4a7c15);
-    z = (z ^ (z >> 30)) * UINT64_C(0xbf58476d1ce4e5b9);
-    z = (z ^ (z >> 27)) * UINT64_C(0x94d049bb133111eb);
-    return z ^ (z >> 31);
-}
-
 /* Every word of the first rows at random, every other one empty. */
 static void random_rows(size_t rows)
 {
@@ -222,59 +208,25 @@ static const struct { const char *name; void (*make)(void); uint32_t runs_number
 
 /* ---- measuring */
 
-static struct mavrihkel_run list[MOST_RUNS];
-static int64_t out[MAVRIHKEL_TOTALS];
+static struct {
+    struct mavrihkel_run list[MOST_RUNS];
+    int64_t out[MAVRIHKEL_TOTALS];
+} written;
 static totals_call *const totals_calls[CALLS] = {mavrihkel_mask_totals, row_totals, bit_totals};
 static runs_call *const runs_calls[CALLS] = {mavrihkel_mask_runs, word_runs, bit_runs};
 
-static uint32_t call_totals(int call) { return totals_calls[call](mask, WORDS, out, MAVRIHKEL_TOTALS); }
-static uint32_t call_runs(int call) { return runs_calls[call](mask, WORDS, list, MOST_RUNS, out, MAVRIHKEL_WRITTEN); }
-
-/* Ends the run if a call does not answer as the library does, with this number. */
-static void agree(uint32_t (*call)(int), uint32_t number)
-{
-    static struct mavrihkel_run wanted_list[MOST_RUNS];
-    int64_t wanted[MAVRIHKEL_TOTALS];
-    for (int k = 0; k < CALLS; k++) {
-        memset(list, 255, sizeof list);
-        memset(out, 255, sizeof out);
-        int right = call(k) == number;
-        if (k == 0) {
-            memcpy(wanted_list, list, sizeof list);
-            memcpy(wanted, out, sizeof out);
-        }
-        if (!right || memcmp(wanted_list, list, sizeof list) != 0 || memcmp(wanted, out, sizeof out) != 0) {
-            fprintf(stderr, "call %d answers otherwise than the library, or not with %u\n", k, number);
-            exit(1);
-        }
-    }
-}
-
-static double seconds_of(uint32_t (*call)(int), int k)
-{
-    struct timespec start, end;
-    clock_gettime(CLOCK_MONOTONIC, &start);
-    for (int n = 0; n < TIMES; n++) {
-        call(k);
-        __asm__ volatile("" ::: "memory");
-    }
-    clock_gettime(CLOCK_MONOTONIC, &end);
-    return (double)(end.tv_sec - start.tv_sec) + 1e-9 * (double)(end.tv_nsec - start.tv_nsec);
-}
+static uint32_t call_totals(int k) { return totals_calls[k](mask, WORDS, written.out, MAVRIHKEL_TOTALS); }
+static uint32_t call_runs(int k) { return runs_calls[k](mask, WORDS, written.list, MOST_RUNS, written.out, MAVRIHKEL_WRITTEN); }
 
 /* Columns are parted by two spaces or more. */
-static void table(const char *what, uint32_t (*call)(int), int refuses)
+static void table(const char *what, numbered_call *call, int refuses)
 {
     printf("%s  library/the same steps in C  library/cell by cell in C\n", what);
     for (size_t m = 0; m < sizeof masks / sizeof masks[0]; m++) {
-        double least[CALLS] = {1e9, 1e9, 1e9};
+        double least[CALLS];
         masks[m].make();
-        agree(call, refuses ? masks[m].runs_number : 0);
-        for (int round = 0; round < ROUNDS; round++)
-            for (int k = 0; k < CALLS; k++) {
-                double seconds = seconds_of(call, k);
-                if (seconds < least[k]) least[k] = seconds;
-            }
+        agree(call, refuses ? masks[m].runs_number : 0, &written, sizeof written);
+        least_times(call, TIMES, least);
         printf("%s  %.2f  %.3f\n", masks[m].name, least[0] / least[1], least[0] / least[2]);
     }
 }

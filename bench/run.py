@@ -3,9 +3,9 @@
 Then that of the library's calls.
 
 python3 bench/run.py [--rounds N] [--write docs/SPEED.md] [--plots PROGRAM]
-python3 bench/run.py --masks
+python3 bench/run.py [--walks] [--masks]
 
-The second prints the tables of the calls on masks alone.
+The second prints the tables of the calls on two walks or on masks, taken from C, alone.
 
 Builds what it needs and makes the inputs, all under target/. On each input the three programs must
 first write the same bytes; then they are timed in turns. Exits 1 on a difference, and where
@@ -131,14 +131,28 @@ def printed_tables(printed):
 
 
 def library_tables():
-    """The ratios of the calls on lists of points and of runs, by the callers' own benchmark."""
+    """The ratios of the calls on lists of points, on two walks and on runs, by the callers' own benchmark."""
     return printed_tables(run("cargo", "run", "--quiet", "--release", "--bin", "bench", folder=CALLERS))
+
+
+def tables_from_c(name, *objects):
+    """What the program in C of this name prints, built with the library."""
+    run("gcc", "-O3", "-o", BUILT / name, BENCH / f"{name}.c", *objects, LIBRARY)
+    return printed_tables(run(BUILT / name))
+
+
+def walk_tables():
+    """The ratios of the call on two walks, beside a loop that is built twice."""
+    objects = []
+    for loop, options in (("with_vectors", []), ("without_vectors", ["-fno-tree-vectorize"])):
+        objects.append(BUILT / f"{loop}.o")
+        run("gcc", "-O3", *options, f"-DLOOP={loop}", "-c", "-o", objects[-1], BENCH / "double_loop.c")
+    return tables_from_c("walks", *objects)
 
 
 def mask_tables():
     """The ratios of the calls on masks."""
-    run("gcc", "-O3", "-o", BUILT / "masks", BENCH / "masks.c", LIBRARY)
-    return printed_tables(run(BUILT / "masks"))
+    return tables_from_c("masks")
 
 
 def machine():
@@ -158,6 +172,7 @@ def report(programs, paths, rounds):
     if CALLERS.exists():
         run("rt", "staticlib", "exports")
         text += f"\nCalls of the library from Rust:\n\n{library_tables()}"
+        text += f"\nThe call of the library on two walks, from C:\n\n{walk_tables()}"
         text += f"\nCalls of the library on masks, from C:\n\n{mask_tables()}"
     return text, most < MOST_KILOBYTES
 
@@ -177,12 +192,13 @@ def main():
     parser.add_argument("--rounds", type=int, default=40)
     parser.add_argument("--write", metavar="FILE", help="put the table into this page")
     parser.add_argument("--plots", metavar="PROGRAM", help="measure this program instead of target/bin/plots")
-    parser.add_argument("--masks", action="store_true", help="the calls on masks alone")
+    parser.add_argument("--walks", action="append_const", dest="alone", const=walk_tables, help="the call on two walks alone")
+    parser.add_argument("--masks", action="append_const", dest="alone", const=mask_tables, help="the calls on masks alone")
     chosen = parser.parse_args()
-    if chosen.masks:
+    if chosen.alone:
         BUILT.mkdir(parents=True, exist_ok=True)
         run("rt", "staticlib", "exports")
-        print(mask_tables(), end="")
+        print("\n".join(tables() for tables in chosen.alone), end="")
         return
     if chosen.write and chosen.plots:
         sys.exit("only figures of target/bin/plots, which is proved, are written down")

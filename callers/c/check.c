@@ -1,6 +1,6 @@
 /*
- * Document 01's rectangle and unit square, and runs and masks as document 02 has them, through mavrihkel.h; each refusal once, and a buffer that is too short. Totals of cells are also compared with
- * those that an independent loop takes cell by cell. Ends with 1 if an answer is wrong.
+ * Document 01's rectangle and unit square, and two walks, runs and masks as document 02 has them, through mavrihkel.h; each refusal once, of two walks in every order, and a buffer that is too short.
+ * Totals of cells are also compared with those that an independent loop takes cell by cell. Ends with 1 if an answer is wrong.
  */
 #include <inttypes.h>
 #include <stdio.h>
@@ -8,8 +8,8 @@
 
 #include "mavrihkel.h"
 
-/* One entry more than a call writes, which it must leave alone. */
-#define ROOM (MAVRIHKEL_REGION + 1)
+/* One entry more than any call writes, which it must leave alone. */
+#define ROOM (MAVRIHKEL_COMPARISON + 1)
 #define UNTOUCHED INT64_MIN
 
 static int wrong = 0;
@@ -37,6 +37,59 @@ static void expect(const char *what, uint32_t number, uint32_t wanted, const int
 
 #define LENGTH(list) (sizeof(list) / sizeof((list)[0]))
 #define TOTALS(t) (t)[0], (t)[1], (t)[2], (t)[3], (t)[4], (t)[5]
+
+static const int32_t rectangle[] = {2, 0, 10, 4, 8, 8, 0, 4};
+static const int32_t square[] = {0, 0, 1, 0, 1, 1, 0, 1};
+static const int32_t far_off[] = {0, 0, 2001, 0, 0, 1};
+
+/* ---- two walks of one plot */
+
+/* A list of numbers, two to a point, and the number of its refusal, 0 if it is accepted. */
+struct walk {
+    const char *name;
+    const int32_t *points;
+    size_t length;
+    uint32_t number;
+};
+
+/* Two walks: the ten values, with the first number that is not 0. */
+static void expect_comparison(struct walk first, struct walk second, const int64_t *values)
+{
+    printf("%s, and ", first.name);
+    expect(second.name, mavrihkel_compare_walks(first.points, first.length, second.points, second.length, fresh(), ROOM),
+           first.number != 0 ? first.number : second.number, values, MAVRIHKEL_COMPARISON);
+}
+
+static void check_walks(void)
+{
+    static const int32_t five_points[] = {2, 0, 10, 4, 9, 8, 1, 5, 0, 4};
+    static const int32_t south_west[] = {-2000, -2000, -2000, -2000, -2000, -2000}, north_east[] = {2000, 2000, 2000, 2000, 2000, 2000};
+    static const int32_t many[2 * 1025];
+    const struct walk longer = {"five points", five_points, LENGTH(five_points), 0}, as_long = {"unit square", square, LENGTH(square), 0};
+    const struct walk corner = {"a corner", south_west, LENGTH(south_west), 0}, opposite = {"the opposite one", north_east, LENGTH(north_east), 0};
+    const struct walk walks[] = {
+        {"rectangle", rectangle, LENGTH(rectangle), 0},
+        {"coordinate 2,001", far_off, LENGTH(far_off), 1},
+        {"odd length", rectangle, LENGTH(rectangle) - 1, 2},
+        {"odd length with 2,001", far_off, LENGTH(far_off) - 1, 2},
+        {"two points", rectangle, 4, 2},
+        {"1,025 points", many, LENGTH(many), 2},
+    };
+    const int64_t of_longer[] = {-5, -90, -85, -1535, -2195, -985, 1, 2, 1, 10}, of_longer_first[] = {5, 90, 85, 1535, 2195, 985, 2, 1, 0, 10};
+    const int64_t of_as_long[] = {78, 1197, 957, 14716, 21114, 8956, 98, 5, 0, 8}, of_as_long_first[] = {-78, -1197, -957, -14716, -21114, -8956, 5, 98, 0, 8};
+    const int64_t of_itself[] = {0, 0, 0, 0, 0, 0, 0, 0, 0, 8}, of_corners[] = {0, 0, 0, 0, 0, 0, 32000000, 32000000, 0, 6};
+    const int64_t zeros[MAVRIHKEL_COMPARISON] = {0};
+
+    expect_comparison(walks[0], longer, of_longer);
+    expect_comparison(longer, walks[0], of_longer_first);
+    expect_comparison(walks[0], as_long, of_as_long);
+    expect_comparison(as_long, walks[0], of_as_long_first);
+    expect_comparison(corner, opposite, of_corners);
+    for (size_t i = 0; i < LENGTH(walks); i++)
+        for (size_t k = 0; k < LENGTH(walks); k++) expect_comparison(walks[i], walks[k], i == 0 && k == 0 ? of_itself : zeros);
+    expect("room for nine", mavrihkel_compare_walks(rectangle, LENGTH(rectangle), square, LENGTH(square), fresh(), MAVRIHKEL_COMPARISON - 1), MAVRIHKEL_SHORT_BUFFER, NULL, 0);
+    expect("room for none", mavrihkel_compare_walks(many, LENGTH(many), far_off, LENGTH(far_off), fresh(), 0), MAVRIHKEL_SHORT_BUFFER, NULL, 0);
+}
 
 /* ---- cells, each by the edges of its square */
 
@@ -173,9 +226,6 @@ static void check_masks(void)
 
 int main(void)
 {
-    const int32_t rectangle[] = {2, 0, 10, 4, 8, 8, 0, 4};
-    const int32_t square[] = {0, 0, 1, 0, 1, 1, 0, 1};
-    const int32_t far_off[] = {0, 0, 2001, 0, 0, 1};
     const int64_t rectangle_totals[] = {80, 1200, 960, 14720, 21120, 8960};
     const int64_t square_totals[] = {2, 3, 3, 4, 6, 4};
     const int64_t square_mapped[] = {2, 12, 3, 50, 26, 4};
@@ -220,6 +270,7 @@ int main(void)
     expect("room for five", mavrihkel_map_totals(1, 1, 0, 1, 1, 0, TOTALS(square_totals), fresh(), MAVRIHKEL_TOTALS - 1), MAVRIHKEL_SHORT_BUFFER, NULL, 0);
     expect("room for one", mavrihkel_outline_centroid(TOTALS(square_totals), fresh(), MAVRIHKEL_CENTRE - 1), MAVRIHKEL_SHORT_BUFFER, NULL, 0);
     expect("room for six", mavrihkel_region_totals(sound, 1, fresh(), MAVRIHKEL_REGION - 1), MAVRIHKEL_SHORT_BUFFER, NULL, 0);
+    check_walks();
     check_masks();
     return wrong;
 }

@@ -1,9 +1,9 @@
 /*
- * The proved calls on outlines, on regions and on masks, for C and C++ on x86-64 Linux. Link target/staticlib/libexports.a, which `rt staticlib exports` writes.
+ * The proved calls on outlines, on two walks of one plot, on regions and on masks, for C and C++ on x86-64 Linux. Link target/staticlib/libexports.a, which `rt staticlib exports` writes.
  *
  * Each call answers a number: 0 where it is accepted, else that of document 01's or 02's refusal, named at each call, the first that applies in the order given. It writes its values to the
  * front of `out`, zeros with every refusal but for the index of a run, and nothing behind them. Where `out_length` is less than the number of its values, it writes nothing, to no list either, and
- * answers MAVRIHKEL_SHORT_BUFFER. That much is proved of the library, for every list, number and buffer; that these declarations fit it is tested (check.c, masks.c).
+ * answers MAVRIHKEL_SHORT_BUFFER. That much is proved of the library, for every list, number and buffer; that these declarations fit it is tested (check.c, masks.c, walks.c).
  *
  * What a caller owes: a pointer is aligned and is not NULL, also where the length is 0, and that many entries lie there; the entries of `out`, and those of the list that mavrihkel_mask_runs
  * fills, may be written and overlap no other list. A call keeps no pointer, and no state between calls, so threads may call at once.
@@ -30,6 +30,7 @@ extern "C" {
 
 #define MAVRIHKEL_TOTALS 6
 #define MAVRIHKEL_CENTRE 2
+#define MAVRIHKEL_COMPARISON 10
 #define MAVRIHKEL_REGION 7
 #define MAVRIHKEL_WRITTEN 1
 #define MAVRIHKEL_SHORT_BUFFER 100
@@ -40,6 +41,17 @@ extern "C" {
  *   1  a coordinate is below -2,000 or above 2,000
  */
 uint32_t mavrihkel_outline_totals(const int32_t *points, size_t points_length, int64_t *out, size_t out_length);
+
+/*
+ * Two walks of one plot, each a list as above; they may overlap, or be one and the same. Ten values. Six differences: the totals of the first less those of the second. Two squared distances, in square
+ * decimetres: the greatest from a point of the first to the nearest point of the second, and the greatest from a point of the second to the nearest of the first (their roots are the directed Hausdorff
+ * distances); edges do not count for them. Then the list handed back, 0 for the first or 1 for the second, and how many of its numbers: the list of more points, all of it, the first where both have as
+ * many; with a refusal, none of the first. The first list is tested before the second, each for:
+ *   2  the length is odd, or there are fewer than 3 points, or over 1,024
+ *   1  a coordinate is below -2,000 or above 2,000
+ */
+uint32_t mavrihkel_compare_walks(const int32_t *first, size_t first_length, const int32_t *second, size_t second_length,
+                                 int64_t *out, size_t out_length);
 
 /*
  * The six totals of the outline moved by u = a x + b y + e, v = g x + h y + f, from its six totals.

@@ -1,8 +1,9 @@
-//! Safe functions over the proved static library `exports`. The numbers of refusals, the units and the order of the totals are document 01's, those of masks document 02's.
+//! Safe functions over the proved static library `exports`. The numbers of refusals, the units and the order of the totals are document 01's; masks and pairs of walks are document 02's.
 //!
 //! A cell is its ground: the cell in column x of row y is the square from (x, y) to (x + 1, y + 1). So cells answer the `Totals` that an outline does (document 02, CR 2), and `outline_centroid` gives their centre. The functions of before, `region_sums` and `mask_sums`, answered sums over cells as points; they are gone.
 //!
 //! The proofs end at the static library: that the declarations in `linked` fit it is tested (`tests/compare`) and not proved.
+mod linked;
 mod refusal;
 
 use refusal::other_version;
@@ -17,6 +18,19 @@ pub struct Totals {
     pub xx12: i64,
     pub xy24: i64,
     pub yy12: i64,
+}
+
+/// Two walks of one plot beside each other. Distances are squared, in square decimetres, and are those between points: edges do not count for them.
+#[derive(Clone, Copy, Debug, PartialEq, Eq)]
+pub struct Comparison<'a> {
+    /// The totals of the first walk less those of the second.
+    pub differences: Totals,
+    /// The greatest distance from a point of the first to the nearest point of the second, squared. The root of it is the directed Hausdorff distance.
+    pub first_to_second: i64,
+    /// The same from the points of the second to the first.
+    pub second_to_first: i64,
+    /// The caller's own list, not a copy: that of more points, or the first where both have as many.
+    pub longer: &'a [i32],
 }
 
 /// (x, y) goes to (a x + b y + e, g x + h y + f).
@@ -49,70 +63,6 @@ pub struct Run {
 /// The answer of a call whose buffer is too short. No refusal of document 01 or 02 has this number.
 pub const SHORT_BUFFER: u32 = 100;
 
-mod linked {
-    use super::Run;
-
-    extern "C" {
-        pub fn mavrihkel_outline_totals(
-            points: *const i32,
-            points_length: usize,
-            out: *mut i64,
-            out_length: usize,
-        ) -> u32;
-
-        pub fn mavrihkel_map_totals(
-            a: i32,
-            b: i32,
-            g: i32,
-            h: i32,
-            e: i32,
-            f: i32,
-            a2: i64,
-            x6: i64,
-            y6: i64,
-            xx12: i64,
-            xy24: i64,
-            yy12: i64,
-            out: *mut i64,
-            out_length: usize,
-        ) -> u32;
-
-        pub fn mavrihkel_outline_centroid(
-            a2: i64,
-            x6: i64,
-            y6: i64,
-            xx12: i64,
-            xy24: i64,
-            yy12: i64,
-            out: *mut i64,
-            out_length: usize,
-        ) -> u32;
-
-        pub fn mavrihkel_region_totals(
-            runs: *const Run,
-            runs_length: usize,
-            out: *mut i64,
-            out_length: usize,
-        ) -> u32;
-
-        pub fn mavrihkel_mask_totals(
-            words: *const u64,
-            words_length: usize,
-            out: *mut i64,
-            out_length: usize,
-        ) -> u32;
-
-        pub fn mavrihkel_mask_runs(
-            words: *const u64,
-            words_length: usize,
-            runs: *mut Run,
-            runs_length: usize,
-            out: *mut i64,
-            out_length: usize,
-        ) -> u32;
-    }
-}
-
 // ---- the library's own form: a number, and values at the front of the caller's buffer
 
 /// Writes the six totals to the first six entries, zeros with a refusal. A shorter buffer stays as it was, and the answer is `SHORT_BUFFER`.
@@ -120,6 +70,21 @@ pub fn outline_totals_into(points: &[i32], out: &mut [i64]) -> u32 {
     // Sound: the library asks nothing of its caller but that each pointer and length are those of a slice.
     unsafe {
         linked::mavrihkel_outline_totals(points.as_ptr(), points.len(), out.as_mut_ptr(), out.len())
+    }
+}
+
+/// Writes ten values, in the same way: the six differences of totals, the two squared distances, which list is handed back (0 the first, 1 the second) and how many of its numbers.
+pub fn compare_walks_into(first: &[i32], second: &[i32], out: &mut [i64]) -> u32 {
+    // Sound, as above: the library only reads the two lists, and they may overlap.
+    unsafe {
+        linked::mavrihkel_compare_walks(
+            first.as_ptr(),
+            first.len(),
+            second.as_ptr(),
+            second.len(),
+            out.as_mut_ptr(),
+            out.len(),
+        )
     }
 }
 
@@ -220,6 +185,22 @@ pub fn outline_totals(points: &[i32]) -> Result<Totals, Refusal> {
     let mut v = [0; 6];
     let number = outline_totals_into(points, &mut v);
     totals_or_refusal(number, v)
+}
+
+/// Two walks of one plot: the differences of their totals, how far apart their points lie, and the longer of the two. A list is refused as by `outline_totals`, the first before the second.
+pub fn compare_walks<'a>(first: &'a [i32], second: &'a [i32]) -> Result<Comparison<'a>, Refusal> {
+    let mut v = [0; 10];
+    let number = compare_walks_into(first, second, &mut v);
+    let [six @ .., first_to_second, second_to_first, list, length] = v;
+    match Refusal::of(number) {
+        Some(refusal) => Err(refusal),
+        None => Ok(Comparison {
+            differences: totals_of(six),
+            first_to_second,
+            second_to_first,
+            longer: &[first, second][list as usize][..length as usize],
+        }),
+    }
 }
 
 /// The totals of the mapped outline, from those of the outline.

@@ -2,7 +2,7 @@
 use std::error::Error;
 use std::fmt;
 
-/// Why a call on an outline, its totals or a mask is refused; as a number, that of documents 01 and 02.
+/// Why a call on an outline, two walks, totals or a mask is refused; as a number, that of documents 01 and 02.
 #[derive(Clone, Copy, Debug, PartialEq, Eq)]
 #[repr(u32)]
 pub enum Refusal {

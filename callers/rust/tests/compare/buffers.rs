@@ -1,8 +1,8 @@
 //! The whole buffer after each call, whatever its length.
 use crate::{affine_map, runs_of, totals};
 use mavrihkel::{
-    map_totals_into, mask_runs_into, mask_totals_into, outline_centroid_into, outline_totals_into,
-    region_totals_into, SHORT_BUFFER,
+    compare_walks_into, map_totals_into, mask_runs_into, mask_totals_into, outline_centroid_into,
+    outline_totals_into, region_totals_into, SHORT_BUFFER,
 };
 
 const UNIT_SQUARE: [i32; 8] = [0, 0, 1, 0, 1, 1, 0, 1];
@@ -32,6 +32,25 @@ fn list_call() {
         &[0; 6],
     );
     leaves_the_rest(|out| outline_totals_into(&[9999; 6], out), 1, &[0; 6]);
+}
+
+#[test]
+fn walks_call() {
+    let call = |first: &'static [i32], second: &'static [i32]| {
+        move |out: &mut [i64]| compare_walks_into(first, second, out)
+    };
+    let half = &UNIT_SQUARE[..6];
+    let itself = [0, 0, 0, 0, 0, 0, 0, 0, 0, 8];
+    leaves_the_rest(call(&UNIT_SQUARE, &UNIT_SQUARE), 0, &itself);
+    leaves_the_rest(
+        call(half, &UNIT_SQUARE),
+        0,
+        &[-1, -1, -2, -1, -3, -3, 0, 1, 1, 8],
+    );
+    leaves_the_rest(call(&UNIT_SQUARE, &UNIT_SQUARE[1..]), 2, &[0; 10]);
+    leaves_the_rest(call(&UNIT_SQUARE[1..], &UNIT_SQUARE), 2, &[0; 10]);
+    leaves_the_rest(call(&UNIT_SQUARE, &[9999; 6]), 1, &[0; 10]);
+    leaves_the_rest(call(&[9999; 6], &UNIT_SQUARE), 1, &[0; 10]);
 }
 
 #[test]

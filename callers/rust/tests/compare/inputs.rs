@@ -60,6 +60,15 @@ pub fn damaged(random: &mut Random, length: usize) -> Vec<i32> {
     list
 }
 
+/// The same points recorded once more, in step: each number off by a little, within the limits.
+pub fn recorded_again(random: &mut Random, list: &[i32]) -> Vec<i32> {
+    let error = random.one_of(&[0, 1, 5, 100]);
+    list.iter()
+        .map(|&z| (i64::from(z) + random.between(-error, error)).clamp(-2000, 2000))
+        .map(|z| z as i32)
+        .collect()
+}
+
 /// Runs that make up a region: in rows at random, in every row in turn, or in one row. `count` is at most 4,097, which is one too many.
 pub fn region(random: &mut Random, count: usize) -> Vec<[u32; 3]> {
     let spread = random.one_of(&[1, 20, 1024]);

@@ -1,4 +1,4 @@
-//! The static library beside an independent implementation of document 01 and of document 02's cells and masks, on seeded inputs: long and short, valid and damaged.
+//! The static library beside an independent implementation of document 01 and of document 02's pairs of walks, cells and masks, on seeded inputs: long and short, valid and damaged.
 mod buffers;
 mod centres;
 mod inputs;
@@ -8,6 +8,7 @@ mod masks;
 mod reference;
 mod refusals;
 mod regions;
+mod walks;
 mod worked;
 
 use mavrihkel::{AffineMap, Run, Totals};

@@ -1,4 +1,4 @@
-//! Document 01, and cells and masks as document 02 has them, in 128-bit integers, written from the papers: each outcome is a number, 0 if accepted, and its values, zeros with a refusal.
+//! Document 01, and two walks, cells and masks as document 02 has them, in 128-bit integers, written from the papers: each outcome is a number, 0 if accepted, and its values, zeros with a refusal.
 
 pub type Outcome<const N: usize> = (u32, [i128; N]);
 
@@ -42,11 +42,15 @@ fn add_outline(totals: &mut [i128; 6], points: &[(i128, i128)]) {
     }
 }
 
-pub fn list_call(numbers: &[i32]) -> Outcome<6> {
-    let points: Vec<(i128, i128)> = numbers
+fn points_of(numbers: &[i32]) -> Vec<(i128, i128)> {
+    numbers
         .chunks_exact(2)
         .map(|p| (i128::from(p[0]), i128::from(p[1])))
-        .collect();
+        .collect()
+}
+
+pub fn list_call(numbers: &[i32]) -> Outcome<6> {
+    let points = points_of(numbers);
     if numbers.len() % 2 != 0 || !(3..=1024).contains(&points.len()) {
         return refused(2);
     }
@@ -60,6 +64,38 @@ pub fn list_call(numbers: &[i32]) -> Outcome<6> {
     let mut totals = [0; 6];
     add_outline(&mut totals, &points);
     (0, totals)
+}
+
+/// The squared distance from one walk's points to another: the greatest of those from each point to the nearest of the other.
+fn distance(from: &[(i128, i128)], to: &[(i128, i128)]) -> i128 {
+    let squared = |(x, y): (i128, i128), (p, q): (i128, i128)| (x - p).pow(2) + (y - q).pow(2);
+    let to_nearest = |&p| to.iter().map(|&q| squared(p, q)).min();
+    let farthest = from.iter().filter_map(to_nearest).max();
+    farthest.expect("both walks have points")
+}
+
+/// The six differences, the two distances, which list is handed back (0 the first, 1 the second) and how many of its numbers.
+pub fn walks_call(first: &[i32], second: &[i32]) -> Outcome<10> {
+    let (number, of_first) = list_call(first);
+    if number != 0 {
+        return refused(number);
+    }
+    let (number, of_second) = list_call(second);
+    if number != 0 {
+        return refused(number);
+    }
+    let (first, second) = (points_of(first), points_of(second));
+    let second_is_longer = second.len() > first.len();
+    let longer = if second_is_longer { &second } else { &first };
+    let mut values = [0; 10];
+    for k in 0..6 {
+        values[k] = of_first[k] - of_second[k];
+    }
+    values[6] = distance(&first, &second);
+    values[7] = distance(&second, &first);
+    values[8] = i128::from(second_is_longer);
+    values[9] = 2 * longer.len() as i128;
+    (0, values)
 }
 
 /// `map` is a, b, g, h, e, f.

@@ -1,8 +1,8 @@
-//! Document 01's plots worked by hand and document 02's regions, through the functions that give results.
+//! Document 01's plots worked by hand, and document 02's walks and regions, through the functions that give results.
 use crate::{affine_map, runs_of, totals};
 use mavrihkel::{
-    map_totals, mask_runs, mask_totals, outline_centroid, outline_totals, region_totals, Centre,
-    Refusal, RegionRefusal,
+    compare_walks, map_totals, mask_runs, mask_totals, outline_centroid, outline_totals,
+    region_totals, Centre, Comparison, Refusal, RegionRefusal,
 };
 
 #[test]
@@ -26,6 +26,42 @@ fn plots() {
 
     let west = outline_totals(&[-1, 0, 0, 0, 0, 1, -1, 1]).expect("accepted");
     assert_eq!(outline_centroid(west), Ok(Centre { x: 0, y: 1 }));
+}
+
+fn comparison(six: [i64; 6], there: i64, back: i64, longer: &[i32]) -> Comparison<'_> {
+    Comparison {
+        differences: totals(six),
+        first_to_second: there,
+        second_to_first: back,
+        longer,
+    }
+}
+
+/// The rectangle beside a walk of five points, in either order, and with itself; then lists refused, the first before the second.
+#[test]
+fn walks() {
+    let rectangle = [2, 0, 10, 4, 8, 8, 0, 4];
+    let five_points = [2, 0, 10, 4, 9, 8, 1, 5, 0, 4];
+    let differences = [-5, -90, -85, -1535, -2195, -985];
+    assert_eq!(
+        compare_walks(&rectangle, &five_points),
+        Ok(comparison(differences, 1, 2, &five_points))
+    );
+    assert_eq!(
+        compare_walks(&five_points, &rectangle),
+        Ok(comparison(differences.map(|z| -z), 2, 1, &five_points))
+    );
+    assert_eq!(
+        compare_walks(&rectangle, &rectangle),
+        Ok(comparison([0; 6], 0, 0, &rectangle))
+    );
+
+    let (odd, far_off) = (&rectangle[1..], [0, 0, 2001, 0, 0, 1]);
+    let (length, coordinate) = (Refusal::WrongLength, Refusal::CoordinateOutsideLimits);
+    assert_eq!(compare_walks(odd, &far_off), Err(length));
+    assert_eq!(compare_walks(&far_off, odd), Err(coordinate));
+    assert_eq!(compare_walks(&rectangle, odd), Err(length));
+    assert_eq!(compare_walks(&rectangle, &far_off), Err(coordinate));
 }
 
 /// Totals and centre. Sums over cells as points would have the run's centre at (3, 3); totals of the box round the L, six cells.

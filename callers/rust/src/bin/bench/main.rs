@@ -2,50 +2,59 @@
 //!
 //!     cargo run --release --bin bench
 //!
-//! Each time is the least of 25 rounds, in which the calls of a table take turns on the same list.
+//! Each time is the least of 25 rounds, in which the calls of a table take turns on the same input.
 mod outlines;
 mod regions;
+mod walks;
 
 use std::hint::black_box;
 use std::time::{Duration, Instant};
 
 const ROUNDS: usize = 25;
 
-/// A call on a list in the library's own form: the number of the refusal, and the values.
-type Call<T, const VALUES: usize> = fn(&[T], &mut [i64; VALUES]) -> u32;
+/// A call on an input, a list or two, in the library's own form: the number of the refusal, and the values.
+type Call<Input, const VALUES: usize> = fn(&Input, &mut [i64; VALUES]) -> u32;
 
-fn time<T, const VALUES: usize>(call: Call<T, VALUES>, list: &[T], times: usize) -> Duration {
+fn time<Input: ?Sized, const VALUES: usize>(
+    call: Call<Input, VALUES>,
+    input: &Input,
+    times: usize,
+) -> Duration {
     let mut out = [0; VALUES];
     let start = Instant::now();
     for _ in 0..times {
-        black_box(call(black_box(list), &mut out));
+        black_box(call(black_box(input), &mut out));
         black_box(&out);
     }
     start.elapsed()
 }
 
-/// The least time of each call, in seconds, of so many on the same list.
-fn least_times<T, const VALUES: usize, const CALLS: usize>(
-    calls: [Call<T, VALUES>; CALLS],
-    list: &[T],
+/// The least time of each call, in seconds, of so many on the same input.
+fn least_times<Input: ?Sized, const VALUES: usize, const CALLS: usize>(
+    calls: [Call<Input, VALUES>; CALLS],
+    input: &Input,
     times: usize,
 ) -> [f64; CALLS] {
     let mut least = [Duration::MAX; CALLS];
     for _ in 0..ROUNDS {
         for (shortest, call) in least.iter_mut().zip(calls) {
-            *shortest = time(call, list, times).min(*shortest);
+            *shortest = time(call, input, times).min(*shortest);
         }
     }
     least.map(|d| d.as_secs_f64())
 }
 
 /// Ends the run if two of the calls answer differently, or not with this number.
-fn agree<T, const VALUES: usize>(calls: &[Call<T, VALUES>], list: &[T], number: u32) {
+fn agree<Input: ?Sized, const VALUES: usize>(
+    calls: &[Call<Input, VALUES>],
+    input: &Input,
+    number: u32,
+) {
     let answers: Vec<(u32, [i64; VALUES])> = calls
         .iter()
         .map(|call| {
             let mut out = [0; VALUES];
-            (call(list, &mut out), out)
+            (call(input, &mut out), out)
         })
         .collect();
     assert!(answers.iter().all(|a| *a == answers[0] && a.0 == number));
@@ -63,6 +72,8 @@ impl Numbers {
 
 fn main() {
     outlines::table();
+    println!();
+    walks::table();
     println!();
     regions::table();
 }

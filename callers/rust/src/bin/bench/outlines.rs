@@ -59,7 +59,7 @@ fn in_place(points: &[i32], out: &mut [i64; 6]) -> u32 {
 }
 
 #[inline(never)]
-fn same_steps(points: &[i32], out: &mut [i64; 6]) -> u32 {
+pub fn same_steps(points: &[i32], out: &mut [i64; 6]) -> u32 {
     if wrong_length(points) {
         return 2;
     }
@@ -71,7 +71,7 @@ fn same_steps(points: &[i32], out: &mut [i64; 6]) -> u32 {
 }
 
 /// A polygon with `count` points in no particular order.
-fn outline(count: usize) -> Vec<i32> {
+pub fn outline(count: usize) -> Vec<i32> {
     let mut numbers = Numbers(12345);
     (0..2 * count)
         .map(|_| numbers.below(4001) as i32 - 2000)
@@ -79,7 +79,7 @@ fn outline(count: usize) -> Vec<i32> {
 }
 
 /// All three refuse the same lists with the same number: a number outside at each place, an odd length, too few points and too many.
-fn agree_on_refusals(calls: &[Call<i32, 6>]) {
+fn agree_on_refusals(calls: &[Call<[i32], 6>]) {
     let sound = outline(64);
     for i in 0..sound.len() {
         let mut with_one_outside = sound.clone();
@@ -92,7 +92,7 @@ fn agree_on_refusals(calls: &[Call<i32, 6>]) {
 }
 
 pub fn table() {
-    let calls: [Call<i32, 6>; 3] = [library, in_place, same_steps];
+    let calls: [Call<[i32], 6>; 3] = [library, in_place, same_steps];
     agree_on_refusals(&calls);
     println!("points  library/in place  library/same steps");
     for count in [4, 64, 1024] {

@@ -87,7 +87,7 @@ fn region(count: usize) -> Vec<Run> {
 }
 
 /// The two agree on refused lists too, by whatever run and from the first on.
-fn agree_on_refusals(calls: &[Call<Run, 7>]) {
+fn agree_on_refusals(calls: &[Call<[Run], 7>]) {
     let sound = region(64);
     for i in 1..sound.len() {
         let mut repeated = sound.clone();
@@ -102,7 +102,7 @@ fn agree_on_refusals(calls: &[Call<Run, 7>]) {
 }
 
 pub fn table() {
-    let calls: [Call<Run, 7>; 2] = [library, loop_over_runs];
+    let calls: [Call<[Run], 7>; 2] = [library, loop_over_runs];
     agree_on_refusals(&calls);
     println!("runs  library/loop over runs");
     for count in [16, 256, 4096] {
