@@ -1,17 +1,18 @@
 """Recomputes what the pages say: python3 docs/check.py [--plots PROGRAM]. Prints what is wrong and exits 1.
 
-In NUMBERS.md, CROSSINGS.md, CASES.md and CASES-CELLS.md every figure must be one that is recomputed:
+In NUMBERS.md, CROSSINGS.md, CASES.md, CASES-CELLS.md and TWO-WALKS.md every figure must be one that is recomputed:
 - a fenced block `input` (with a file's name, the file's own text) and the block `output` after it: what the program
   and the second program print;
 - a code span with =, ≤, < or ≈: its sides, by exact fractions. A decimal after = is exact; one after ≈ is rounded to
   the places that it has. Its names stand for the figures of the line that the last comment `figures:` names, of the
   last block or of an example file, and it does not end in a fraction; before the first such comment under a heading
-  it is a general formula, and is tried on every line of the page and on made-up outlines, rings, regions and bits of
-  masks. The figures of an O line and of the S line count each ring by its kind; an R line with 32 stands for the points
-  of the ring that it refuses, as the call on a whole list answers them;
-- a table after a comment `terms`, `map`, `edges`, `loops`, `test`, `trial`, `answers`, `ground`, `cells` or `regions`;
-  a block `runs`, `mask` or `map`. A block `runs` that follows a block `mask` has the runs that the second program
-  writes for it.
+  it is a general formula, and is tried on every line of the page and on made-up outlines, rings, regions, bits of masks
+  and pairs of walks. The figures of an O line and of the S line count each ring by its kind; an R line with 32 stands
+  for the points of the ring that it refuses, as the call on a whole list answers them;
+- a table after a comment `terms`, `map`, `edges`, `loops`, `test`, `trial`, `answers`, `ground`, `cells` or `regions`,
+  or `answer`, `products`, `nearest`, `compared` or `sizes` for two walks; a block `runs`, `mask`, `map` or `walks`. A
+  block `runs` that follows a block `mask` has the runs that the second program writes for it;
+- a block of code for the walks of the last block `walks`, and the block `printed` after it: see page_code.py.
 A digit anywhere else is an error. A comment `crosses:`, `plain:` or `same:` says what the outlines of the lines that it
 names are, `inside:` that the centre of the first lies inside the second. README.md: its example, its limits and its
 command for other units. REFUSALS.md: the numbers. ARCHITECTURE.md: every crate, above all that it rests on. CLAIMS*.md:
@@ -140,7 +141,7 @@ def main():
     parser = argparse.ArgumentParser(description="Recomputes what the pages say.")
     parser.add_argument("--plots", type=Path, default=ROOT / "target" / "bin" / "plots", help="the program to run")
     plots = parser.parse_args().plots.resolve()
-    for name in ("NUMBERS.md", "CROSSINGS.md", "CASES.md", "CASES-CELLS.md"):
+    for name in ("NUMBERS.md", "CROSSINGS.md", "CASES.md", "CASES-CELLS.md", "TWO-WALKS.md"):
         Page(DOCS / name, plots).check()
     check_readme(plots)
     check_refusals()

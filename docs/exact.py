@@ -17,8 +17,10 @@ PRINTED = ("points", *TOTALS, "centre x", "centre y")
 METRES = {"area": " in m²", "∫x": " in m³", "∫y": " in m³", "∫x²": " in m⁴", "∫xy": " in m⁴", "∫y²": " in m⁴"}
 CENTRAL = {"Mxx": "∫x²", "Mxy": "∫xy", "Myy": "∫y²"}
 SUMS = {"A": "area", "Σx": "∫x", "Σy": "∫y", "Σx²": "∫x²", "Σxy": "∫xy", "Σy²": "∫y²"}
+WALKS = (*(f"{which} {name}" for which in ("first", "second") for name in (*TOTALS, *INTEGRANDS)),
+         *(f"difference in {name}" for name in TOTALS), "first to second", "second to first")
 NAMES = (*TOTALS, *INTEGRANDS, *(name + unit for name, unit in METRES.items()), "area in ha", *CENTRAL,
-         *(name + " in m⁴" for name in CENTRAL), *SUMS, "outline", "outlines", "points", "exact x", "exact y",
+         *(name + " in m⁴" for name in CENTRAL), *SUMS, *WALKS, "outline", "outlines", "points", "exact x", "exact y",
          "centre x", "centre y", "c", "x", "y", "p", "q", "a", "b", "g", "h", "e", "f", "d", "k", "w", "i")
 
 
@@ -76,6 +78,8 @@ def half_up(quotient):
 
 FORMULA_NAME = re.compile("|".join(re.escape(name) for name in sorted(NAMES, key=len, reverse=True)) + "|[A-Za-zΣ∫]+")
 DECIMAL = re.compile(r"(\d+)\.(\d+)")
+ROOT = re.compile(r"√(\d+)")
+ROOT_PLACES = 20
 SIGNS = {"−": "-", "×": "*", "^": "**", "²": "**2", "³": "**3", "⁴": "**4", "⌊": "floor(", "⌋": ")"}
 OPERATORS = {ast.Add: operator.add, ast.Sub: operator.sub, ast.Mult: operator.mul, ast.Div: operator.truediv,
              ast.Pow: operator.pow}
@@ -97,6 +101,7 @@ def value(text, figures):
 
     code = FORMULA_NAME.sub(numbered, re.sub(r"(?<=\d),(?=\d{3})", "", text))
     code = DECIMAL.sub(lambda number: f"({int(number[1] + number[2])}/{10 ** len(number[2])})", code)
+    code = ROOT.sub(r"root(\1)", code)
     for sign, written in SIGNS.items():
         code = code.replace(sign, written)
     try:
@@ -107,7 +112,8 @@ def value(text, figures):
 
 
 def evaluated(tree, named):
-    """Sums, products, quotients, powers, the whole part, whole numbers, and names by their place."""
+    """Sums, products, quotients, powers, the whole part, whole numbers and their roots, and names by their place. A root that
+    is not whole is cut off after twenty places."""
     match tree:
         case ast.Tuple(elts=[ast.Constant(value=place)]):
             return Fraction(named[place])
@@ -119,6 +125,8 @@ def evaluated(tree, named):
             return OPERATORS[type(sign)](evaluated(left, named), evaluated(right, named))
         case ast.Call(func=ast.Name(id="floor"), args=[part]):
             return Fraction(math.floor(evaluated(part, named)))
+        case ast.Call(func=ast.Name(id="root"), args=[ast.Constant(value=int() as number)]):
+            return Fraction(math.isqrt(number * 100 ** ROOT_PLACES), 10 ** ROOT_PLACES)
     raise NotAFormula(ast.dump(tree))
 
 

@@ -9,8 +9,10 @@ import exact
 import figures
 import moves
 import page_cells
+import page_code
 import page_masks
 import page_rings
+import page_walks
 import pictures
 import text
 from differences import expect
@@ -19,7 +21,6 @@ ROOT = Path(__file__).resolve().parent.parent
 SEED = 7
 MADE_UP = 100
 ALLOWED = re.compile(r"\b(A2|X6|Y6|XX12|XY24|YY12|[Dd]ocument 0[12]|document 000|CR [23]|[Rr]efusal (8|10|22|27|31|32))\b")
-POINT = re.compile(r"\((-?\d+), (-?\d+)\)")
 # Of the tables that are recomputed in part: the cells of a row that are read as text.
 AS_TEXT = {"test": slice(1, None), "ground": slice(3, None), "regions": slice(1)}
 
@@ -27,7 +28,7 @@ AS_TEXT = {"test": slice(1, None), "ground": slice(3, None), "regions": slice(1)
 # Figures by name
 
 def made_up():
-    """Figures of made-up outlines, rings, edges, maps, regions and bits, by the second program and by exact integrals."""
+    """Figures of made-up outlines, rings, edges, maps, regions, bits and pairs of walks, by the second program and by exact integrals."""
     chance = random.Random(SEED)
     cases = []
     for _ in range(MADE_UP):
@@ -39,7 +40,7 @@ def made_up():
         cases.append({"a": a, "b": b, "g": g, "h": h, "d": exact.integral(exact.INTEGRANDS["area"], [[(0, 0), (a, g), (a + b, g + h), (b, h)]])})
         row, first, length = chance.randint(0, 9), chance.randint(0, 9), chance.randint(1, 9)
         cases.append(page_cells.region([(row, first, length), (row + 1, first + 2, length)]))
-    return cases + page_masks.made_up_bits(chance, MADE_UP)
+    return cases + page_masks.made_up_bits(chance, MADE_UP) + page_walks.made_up_pairs(chance, MADE_UP)
 
 
 # A page
@@ -62,7 +63,7 @@ class Page:
 
     def read_blocks(self):
         """Computes every fenced block; `self.blocks` has, by its last line, the figures that it gives, and `self.examples` by its file."""
-        number, given, affine, example, mask = 0, None, None, None, None
+        number, given, affine, example, mask, walks, code = 0, None, None, None, None, None, None
         while number < len(self.lines):
             kind, _, name = self.lines[number].removeprefix("```").partition(" ")
             if not self.lines[number].startswith("```"):
@@ -94,7 +95,18 @@ class Page:
             elif kind == "map":
                 (a, b, e), (g, h, f) = (map(int, line.split("\t")) for line in body.splitlines())
                 affine = moves.AffineMap(a, b, g, h, e, f)
-            if kind in ("input", "output", "runs", "mask", "map"):
+            elif kind == "walks":
+                walks = page_walks.pair(*map(page_walks.points_in, body.splitlines()))
+                written = "".join(" ".join(map(str, walk)) + "\n" for walk in walks["walks"])
+                expect(body == written, self.at(number), f"the walks are\n{written}")
+                self.blocks[last] = {"walks": walks}
+                self.general.append(walks)
+            elif kind in page_code.SOURCES:
+                page_code.check(self.at(number), kind, body, walks)
+                code = kind
+            elif kind == "printed":
+                expect(body == page_code.printed(code, walks), self.at(number), f"not {page_code.printed(code, walks)}")
+            if kind in ("input", "output", "runs", "mask", "map", "walks", "printed", *page_code.SOURCES):
                 self.lines[number:last + 1] = [""] * (last + 1 - number)
             number = last + 1
 
@@ -130,8 +142,8 @@ class Page:
             elif table and line.startswith("|"):
                 table.append([cell.strip() for cell in line.strip("|").split("|")])
                 if not self.lines[number + 1].startswith("|"):
-                    getattr(self, "table_" + table[0])(number, table[1:], now)
-                if table[0] in ("edges", "loops", "trial", "answers", "cells"):
+                    self.table(number, table[0], table[1:], now)
+                if table[0] in ("edges", "loops", "trial", "answers", "cells", *page_walks.ROWS):
                     continue
                 if table[0] in AS_TEXT:
                     line = "|".join(table[-1][AS_TEXT[table[0]]])
@@ -178,6 +190,13 @@ class Page:
 
     # Tables
 
+    def table(self, number, name, rows, now):
+        """By its name: its own check, or the rows that it has to have."""
+        if name not in page_walks.ROWS:
+            return getattr(self, "table_" + name)(number, rows, now)
+        expected = page_walks.ROWS[name](rows, now)
+        return expect(rows[2:] == expected, self.at(number), f"the rows are {expected}")
+
     def table_terms(self, number, rows, _):
         """The terms that the page gives, summed over the edges, are the totals of every outline."""
         self.terms = {row[0]: row[1].strip("`") for row in rows[2:]}
@@ -220,7 +239,7 @@ class Page:
     def table_loops(self, number, rows, now):
         """Loops, each with its exact figures, which add up to those of the named line."""
         names = [cell.strip("`") for cell in rows[0][1:]]
-        loops = [[(int(x), int(y)) for x, y in POINT.findall(row[0])] for row in rows[2:-1]]
+        loops = [page_walks.points_in(row[0]) for row in rows[2:-1]]
         found = [[exact.outline_figures([loop])[name] for name in names] for loop in loops] + [[now[name] for name in names]]
         written = [[exact.with_decimal(each) for each in row] for row in found]
         expect([[cell.strip("`") for cell in row[1:]] for row in rows[2:]] == written, self.at(number), f"the loops have {written}")
