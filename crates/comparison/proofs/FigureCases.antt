@@ -12,8 +12,8 @@ use Rattle.outline.proofs.Limits.{none-outside}
 use Rattle.outline_answers.specs.declared.OutlineAnswer.{OutlineAnswer}
 use Rattle.outline_answers.specs.ListAnswer.{reading}
 use Rattle.two_walks.specs.Distances.{squaredHausdorff}
-use Rattle.two_walks.proofs.Refusals.{taken-outline, some-points}
 use Rattle.two_walks.specs.Comparison.{FiguresOutcome, minus, noFigures, comparisonNumber, figuresCall}
+use Rattle.two_walks.proofs.Refusals.{taken-outline, some-points}
 
 -- What the call on a whole list is known to have answered, by the case that its answer is.
 pub answered : {o : Outcome} {answer case : OutlineAnswer} → reading answer ≡ o → answer ≡ case → o ≡ reading case
@@ -34,10 +34,8 @@ pub both-accepted : (zs ws : List ℤ) {s t d : Totals} {m n : ℕ} → listCall
 unfolding comparisonNumber figuresCall
 both-accepted zs ws e f g h k = rw (e, f, g, h, k)
 
--- ---- what the distances ask of two accepted walks
+-- ---- what the distances ask
 
-pub no-point-outside : (zs : List ℤ) {t : Totals} → listCall zs ≡ accepted t → anyOutside (points zs) ≡ false
-no-point-outside zs e = none-outside (points zs) (taken-outline zs (ap (λ o. o .number) e) .outline .inside)
-
-pub some-point : (zs : List ℤ) {t : Totals} → listCall zs ≡ accepted t → 0 < length (points zs)
-some-point zs e = some-points zs (ap (λ o. o .number) e)
+-- An accepted walk has points, and none of them is outside the limits.
+pub points-inside : (zs : List ℤ) {t : Totals} → listCall zs ≡ accepted t → (0 < length (points zs)) × (anyOutside (points zs) ≡ false)
+points-inside zs e = let taken = ap (λ o. o .number) e in (some-points zs taken, none-outside (points zs) (taken-outline zs taken .outline .inside))

@@ -6,7 +6,7 @@ use lib.IntN.{ℤ}
 use Rattle.outline.specs.declared.Totals.{Totals}
 use Rattle.outline.specs.ListCall.{accepted, listCall}
 use Rattle.outline.proofs.Limits.{accepted-within}
-use Rattle.comparison.proofs.FigureCases.{answered, second-refused, both-accepted, no-point-outside, some-point}
+use Rattle.comparison.proofs.FigureCases.{answered, second-refused, both-accepted, points-inside}
 use Rattle.comparison.proofs.figures.answer_by_second.Statement.{statement}
 use Rattle.comparison.proofs.figures.answer_by_second.Tie as tie
 
@@ -34,13 +34,13 @@ squared-hausdorff-requires : tie.Need-squared-hausdorff-requires
 squared-hausdorff-requires c κs =
     let known = c .before in
     let s = start known in
-    (no-point-outside (first s) (s .pre), (some-point (second s) (second-accepted known), no-point-outside (second s) (second-accepted known)))
+    (points-inside (first s) (s .pre) .1, points-inside (second s) (second-accepted known))
 
 squared-hausdorff-requires-2 : tie.Need-squared-hausdorff-requires-2
 squared-hausdorff-requires-2 c κs =
     let known = c .before .before in
     let s = start known in
-    (no-point-outside (second s) (second-accepted known), (some-point (first s) (s .pre), no-point-outside (first s) (s .pre)))
+    (points-inside (second s) (second-accepted known) .1, points-inside (first s) (s .pre))
 
 returns : tie.Need-returns
 returns c =
