@@ -53,6 +53,11 @@ then {o} {p} {q} {x} {y} {at} {a} {b} h v w =
       end = omega (arith, length-append x y);
     }
 
+-- A text at the front of a buffer is as many bytes of it.
+pub in-front : {o x p : List ℕ} {n : ℕ} → Written o 0 x p n → take n p ≡ x
+unfolding overwritten
+in-front {o} {x} {n = n} w = ap (take n) (w .buffer) ∙ take-at x (drop (0 + length x) o) n (omega (arith, w .end))
+
 -- One byte.
 pub byte-written : (o : List ℕ) (at b : ℕ) → at < length o → Written o at (b ∷ []) (set o at b) (at + 1)
 unfolding overwritten

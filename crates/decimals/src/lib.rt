@@ -6,7 +6,7 @@ ghost use Prim.Native.Nat.{_+_, _≤_};
 ghost use lib.Dec.{ltb};
 ghost use lib.IntN.{pos, natAbs};
 ghost use lib.ListN.{length};
-ghost use Rattle.decimals.specs.Decimal.{signed, field};
+ghost use Rattle.decimals.specs.Decimal.{decimal, signed, field};
 ghost use Rattle.decimals.specs.Buffer.{fieldRoom, ifRoom, Written};
 use digits::up_to_twenty;
 
@@ -69,4 +69,14 @@ pub fn put_natural(out: &mut [u8], at: usize, n: u64) -> usize
     }
     out[at] = TAB;
     up_to_twenty(out, at + 1, n)
+}
+
+// The digits alone. The room is that of a field, one byte more than 20 digits take.
+pub fn put_digits(out: &mut [u8], at: usize, n: u64) -> usize
+    ensures { λ r. ⌜ Written (now (out .entry)) at (ifRoom fieldRoom (now (out .entry)) at (decimal n)) (now (out .exit)) r ⌝ }
+{
+    if lacks_room(out.len(), at, FIELD_ROOM) {
+        return at;
+    }
+    up_to_twenty(out, at, n)
 }

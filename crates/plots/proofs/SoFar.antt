@@ -7,11 +7,12 @@ use native.Mathlib.Omega.{arith}
 use lib.Dec.{eqb}
 use lib.IntN.{ℤ, pos}
 use lib.ListN.{length, take, drop, length-drop}
-use lib.Seq.{drop-drop, take-add, take-at, drop-at, length-take-le}
+use lib.Seq.{drop-drop, take-add, drop-at, length-take-le}
 use borrow.Rule.Slice.PartMut.{mid-len}
 use Rattle.outline.specs.declared.Sheet.{Sheet}
 use Rattle.outline.specs.WalkCalls.{newSheet}
 use Rattle.decimals.specs.Buffer.{overwritten}
+use Rattle.decimals.proofs.BufferLaws.{in-front}
 use Rattle.text_program.specs.declared.State.{State}
 use Rattle.text_program.specs.Stream.{start, feedCall}
 use Rattle.text_program.specs.Chunks.{Place, Run, here, reads, feeds}
@@ -66,11 +67,10 @@ left buf at have used h l =
 
 -- A call on the bytes from `at` up to `have`, and a write of what it put at the front of `after`, the output's buffer.
 pub after-write : (last : Bool) (st : State) (s : Sheet) (buf : List ℕ) (at have : ℕ) (before after : List ℕ) (r : Fed) (descriptor : ℤ) (text : List ℕ) (whole : Bool) → (let chunk = take (have - at) (drop at buf) in Feeds (feedCall last st s chunk (length before)) before after r → at + r .used ≤ have → have ≤ length buf → descriptor ≡ pos 1 → text ≡ take (r .filled) after → whole ≡ true → SoFar last st s chunk → SoFar last (r .state) (r .sheet) (take (have - (at + r .used)) (drop (at + r .used) buf)))
-unfolding overwritten
 after-write last st s buf at have before after r descriptor text whole f h l d t w k =
     let call = feedCall last st s (take (have - at) (drop at buf)) (length before) in
     let size : r .filled ≡ length (call .output) = ap (λ (r : Fed). r .filled) (f .answer) in
-    let written : text ≡ call .output = t ∙ ap (take (r .filled)) (f .buffer) ∙ take-at (call .output) (drop (0 + length (call .output)) before) (r .filled) (sym size) in
+    let written : text ≡ call .output = t ∙ in-front {n = r .filled} (record { buffer = f .buffer; end = omega (arith, size) }) in
     let used : r .used ≡ call .used = ap (λ (r : Fed). r .used) (f .answer) in
     subst (λ (r : Fed). SoFar last (r .state) (r .sheet) (take (have - (at + r .used)) (drop (at + r .used) buf))) (sym (f .answer))
     (subst (SoFar last (call .state) (call .sheet)) (left buf at have (call .used) (omega arith) l)
@@ -78,11 +78,10 @@ after-write last st s buf at have before after r descriptor text whole f h l d t
 
 -- The bytes from `from` up to `to` are moved to the front, and a read adds to them.
 pub after-read : (st : State) (s : Sheet) (buf moved after : List ℕ) (from to n : ℕ) (r : Received) → (let bytes = take (to - from) (drop from buf) in to ≤ length buf → n ≡ to - from → moved ≡ overwritten buf 0 bytes → take n after ≡ take n moved → n + r .size ≤ length after → r .failed ≡ false → SoFar false st s bytes → SoFar (eqb (r .size) 0) st s (take (n + r .size - 0) (drop 0 after)))
-unfolding overwritten
 after-read st s buf moved after from to n r l e m t h f k =
     let bytes = take (to - from) (drop from buf) in
     let piece = take (r .size) (drop n after) in
-    let front : take n after ≡ bytes = t ∙ ap (take n) m ∙ take-at bytes (drop (0 + length bytes) buf) n (mid-len from to buf l ∙ sym e) in
+    let front : take n after ≡ bytes = t ∙ in-front {n = n} (record { buffer = m; end = omega (arith, mid-len from to buf l, e) }) in
     let sum : n + r .size - 0 ≡ n + r .size = omega arith in
     let all : bytes ++ piece ≡ take (n + r .size - 0) after = ap (λ b. b ++ piece) (sym front) ∙ sym (take-add n (r .size) after) ∙ ap (λ i. take i after) (sym sum) in
     let size : length piece ≡ r .size = length-take-le (r .size) (drop n after) (omega (arith, length-drop n after)) in
