@@ -1,3 +1,5 @@
 mod ClosedFormulas
 pub mod SumBounds
+pub mod Entries
 mod WorkedSums
+mod WorkedEntries

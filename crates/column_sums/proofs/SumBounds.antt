@@ -1,6 +1,6 @@
--- How large the sums below k are, where k is at most 1,024.
+-- How large the sums below k are, where k is at most 1,024; and an entry of any table.
 use mathlib.Core.Path.{_≡_, ap}
-use Prim.Native.Nat.{ℕ, zero, suc, _*_, _≤_, _^_}
+use Prim.Native.Nat.{ℕ, zero, suc, _*_, _<_, _≤_, _^_}
 use native.Mathlib.Nat.{mul-le-mul}
 use native.Mathlib.Omega.{arith}
 use lib.IntN.{ℤ, pos, natAbs}
@@ -23,3 +23,6 @@ index-sized k h e = omega (arith, index-bound k h, ap natAbs e)
 
 pub square-sized : {z : ℤ} (k : ℕ) → k ≤ 1024 → z ≡ pos (squareSum k) → natAbs z ≤ 2 ^ 30
 square-sized k h e = omega (arith, square-bound k h, ap natAbs e)
+
+pub entry-sized : {z : ℤ} {n : ℕ} → z ≡ pos n → n < 2 ^ 32 → natAbs z ≤ 2 ^ 32
+entry-sized e h = omega (arith, h, ap natAbs e)

@@ -1,1 +1,3 @@
 pub mod SumsBelow
+pub mod Annex
+pub mod AnnexLaws

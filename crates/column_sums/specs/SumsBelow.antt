@@ -1,4 +1,4 @@
--- Document 01, "Cells": the sums of the column indices below k and of their squares, by which the sums of x and of x² over a run are computed.
+-- Document 01, "Cells", and document 02, CR 6: the sums of the column indices below k and of their squares, by which the sums of x and of x² over a run are computed.
 use Prim.Native.Nat.{ℕ, zero, suc, _+_, _*_}
 
 -- 0 + 1 + .. + (k − 1).
