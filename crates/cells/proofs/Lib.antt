@@ -2,6 +2,7 @@ pub mod RefusalLaw
 pub mod Tests
 pub mod GridLaws
 pub mod ClosedSums
+mod AnnexSums
 pub mod ScanLaws
 pub mod AnswerReading
 pub mod RegionGround
@@ -10,3 +11,4 @@ pub mod WorkedRun
 pub mod RunLimits
 pub mod AllowedAnswers
 mod RegionUses
+mod BigLiteral

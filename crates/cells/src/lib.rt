@@ -2,15 +2,17 @@
 ghost use mathlib.Core.Path.{_≡_};
 ghost use mathlib.Core.Bool.{not};
 ghost use Prim.Native.Nat.{_^_};
-ghost use Rattle.cell_ground.specs.CellSums.{plusSums, sumsOver};
+ghost use lib.ListN.{getD};
+ghost use Rattle.cell_ground.specs.CellSums.{plusSums};
 ghost use Rattle.cell_ground.specs.Ground.{groundTotals};
 ghost use Rattle.cell_ground.specs.private.SumBounds.{SumsWithin};
-ghost use Rattle.cells.specs.RunCells.{cellsOf};
+ghost use Rattle.column_sums.specs.Annex.{squareSums};
 ghost use Rattle.cells.specs.RegionCall.{badRun, liesAfter, reading, Answers};
-ghost use Rattle.cells.specs.private.Scan.{held, sumsOf, noRuns, foundWith, addRun, answerOf, RunInGrid, SumsSmall, HasRoom};
+ghost use Rattle.cells.specs.private.Scan.{held, sumsOf, sumsBy, noRuns, foundWith, addRun, answerOf, RunInGrid, SumsSmall, HasRoom};
 use column_sums::index_sum;
-use column_sums::square_sum;
 use outline::Totals;
+use square_table::entry_at;
+use square_table::square_sums;
 
 // As many cells of a row as `length`, from the column `first` on. Laid out as in C, whose callers lend lists of them.
 #[repr(C)]
@@ -92,17 +94,18 @@ fn out_of_order(earlier: Run, run: Run) -> bool
     (run.first as u64) < earlier.first as u64 + earlier.length as u64
 }
 
-// The sums of one run: those of x and x² are differences of the sums below its ends, which are at most 1,024.
-fn run_sums(run: Run) -> CellSums
+// The sums of one run: those of x and x² are differences of the sums below its ends, which are at most 1,024. The sums of squares are those of the table, whatever it has
+// (document 02, CR 6).
+fn run_sums(run: Run, squares: &[u32]) -> CellSums
     requires { ⌜ RunInGrid run ⌝ }
-    ensures { λ r. ⌜ r ≡ held (sumsOver (cellsOf run)) ⌝ }
+    ensures { λ r. ⌜ r ≡ held (sumsBy (λ k. getD (now (squares .entry)) k 0) run) ⌝ }
 {
     let first = run.first as u16;
     let end = (run.first + run.length) as u16;
     let n = run.length as i64;
     let y = run.row as i64;
     let x = index_sum(end) - index_sum(first);
-    let xx = square_sum(end) - square_sum(first);
+    let xx = entry_at(squares, end as usize) - entry_at(squares, first as usize);
     CellSums {
         count: n,
         x,
@@ -175,8 +178,9 @@ fn no_runs() -> Scan
 }
 
 // With one run more.
-fn next_found(scan: Scan, run: Run) -> Found
+fn next_found(scan: Scan, run: Run, squares: &[u32]) -> Found
     requires { ⌜ HasRoom scan ⌝ }
+    requires { ⌜ now squares ≡ squareSums ⌝ }
     ensures { λ r. ⌜ r ≡ foundWith (scan .found) (scan .count) (scan .last) run ⌝ }
 {
     let found = scan.found;
@@ -189,7 +193,7 @@ fn next_found(scan: Scan, run: Run) -> Found
             if out_of_order(last, run) {
                 return Found::OutOfOrder(scan.count);
             }
-            let more = run_sums(run);
+            let more = run_sums(run, squares);
             Found::Sums(add_sums(sums, more))
         }
         Found::OutOfOrder(index) => {
@@ -202,11 +206,11 @@ fn next_found(scan: Scan, run: Run) -> Found
     }
 }
 
-fn add_run(scan: Scan, run: Run) -> Scan
-    requires { ⌜ HasRoom scan ⌝ }
+fn add_run(scan: Scan, run: Run, squares: &[u32]) -> Scan
+    requires { ⌜ HasRoom scan × (now squares ≡ squareSums) ⌝ }
     ensures { λ r. ⌜ r ≡ addRun scan run ⌝ }
 {
-    let found = next_found(scan, run);
+    let found = next_found(scan, run, squares);
     Scan {
         count: scan.count + 1,
         last: run,
@@ -227,8 +231,9 @@ fn answer_of(scan: Scan) -> RegionAnswer
     }
 }
 
-// The six totals of the ground under the region that the runs make up, or why it has none.
-pub fn region_totals(runs: &[Run]) -> RegionAnswer
+// `region_totals`, with the table of the annex lent. Thin: what a run adds, and what all come to, is told by covered functions.
+fn totals_by_table(runs: &[Run], squares: &[u32]) -> RegionAnswer
+    requires { ⌜ now squares ≡ squareSums ⌝ }
     ensures { λ r. ⌜ Answers (now (runs .entry)) r ⌝ }
 {
     if 4096 < runs.len() {
@@ -237,8 +242,16 @@ pub fn region_totals(runs: &[Run]) -> RegionAnswer
     let mut scan = no_runs();
     let mut i = 0;
     while i < runs.len() {
-        scan = add_run(scan, runs[i]);
+        scan = add_run(scan, runs[i], squares);
         i = i + 1;
     }
     answer_of(scan)
+}
+
+// The six totals of the ground under the region that the runs make up, or why it has none. The table is built once and lent.
+pub fn region_totals(runs: &[Run]) -> RegionAnswer
+    ensures { λ r. ⌜ Answers (now (runs .entry)) r ⌝ }
+{
+    let squares = square_sums();
+    totals_by_table(runs, &squares)
 }

@@ -1,4 +1,4 @@
-mod ClosedFormulas
+mod ClosedFormula
 pub mod SumBounds
 pub mod Entries
 mod WorkedSums

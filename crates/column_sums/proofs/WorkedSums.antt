@@ -1,10 +1,10 @@
--- The sums below small numbers and below 1,024, by computation from the definitions, and below the largest u16, by the closed formulas.
+-- The sums below small numbers and below 1,024, by computation from the definitions; and that of the numbers below the largest u16, by the closed formula.
 use mathlib.Core.Path.{_≡_, refl}
 use mathlib.Core.List.{List, [], _∷_, map}
 use Prim.Native.Nat.{ℕ}
 use native.Mathlib.Omega.{arith}
 use Rattle.column_sums.specs.SumsBelow.{indexSum, squareSum}
-use Rattle.column_sums.proofs.ClosedFormulas.{index-closed, square-closed}
+use Rattle.column_sums.proofs.ClosedFormula.{index-closed}
 
 abbrev numbers : List ℕ
 numbers = 0 ∷ 1 ∷ 2 ∷ 5 ∷ 1023 ∷ 1024 ∷ []
@@ -19,6 +19,3 @@ square-sums = refl
 
 largest-index-sum : indexSum 65_535 ≡ 2_147_385_345
 largest-index-sum = omega (arith, index-closed 65_535)
-
-largest-square-sum : squareSum 65_535 ≡ 93_818_549_927_935
-largest-square-sum = omega (arith, square-closed 65_535)

@@ -12,6 +12,7 @@ use lib.Pow.{pow-pos}
 use Rattle.word_runs.specs.Bits.{bit, firstWhere, firstOf}
 use Rattle.word_runs.proofs.Searches.{found-bounds, found-holds, none-before}
 use Rattle.word_runs.proofs.WordSearch.{within-word}
+use Rattle.column_sums.specs.SumsBelow.{squareSum}
 use Rattle.cell_ground.specs.CellSums.{Cell, CellSums, noSums, plusSums, sumsOver}
 use Rattle.cell_ground.proofs.SumLaws.{sums-append}
 use Rattle.cells.specs.RunCells.{cellsFrom}
@@ -76,7 +77,7 @@ module _ (w k s e : ℕ) (h : s ≤ 64) (found : e ≡ firstOf 0 (64 - s) w s) w
       (λ i l m. absurd (omega arith))
       (λ i l m. set-if-not-clear (bit w i) (bit-below w i) (none-before (λ (j : ℕ). eqb (bit w j) 0) (64 - s) s i l (omega arith)))
 
-  pub with-run : (sums : RowSums) → withColumns sums (sumsOver (wordCells w k e)) ≡ withSpan (withColumns sums (sumsOver (wordCells w k s))) (column k s) (column k e)
+  pub with-run : (sums : RowSums) → withColumns sums (sumsOver (wordCells w k e)) ≡ withSpan squareSum (withColumns sums (sumsOver (wordCells w k s))) (column k s) (column k e)
   with-run sums =
       let before = sumsOver (wordCells w k s) in
       let last : column k s + (e - s) ≡ column k e = omega (arith, end-from) in
@@ -84,7 +85,7 @@ module _ (w k s e : ℕ) (h : s ≤ 64) (found : e ≡ firstOf 0 (64 - s) w s) w
       ∙ ap (withColumns sums) (sums-append (wordCells w k s) (cellsFrom (k / 16) (column k s) (e - s)))
       ∙ sym (columns-assoc sums before (sumsOver (cellsFrom (k / 16) (column k s) (e - s))))
       ∙ ap (withColumns (withColumns sums before)) (run-closed (k / 16) (column k s) (e - s))
-      ∙ ap (withSpan (withColumns sums before) (column k s)) last
+      ∙ ap (withSpan squareSum (withColumns sums before) (column k s)) last
 
   pub run-not-empty : s < 64 → eqb (bit w s) 1 ≡ true → s < e
   unfolding firstWhere

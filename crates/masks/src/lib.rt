@@ -15,6 +15,7 @@ use cells::Run;
 use integers::lesser;
 use outline::Totals;
 use outline_answers::no_totals;
+use square_table::square_sums;
 
 // The totals of the ground under the marked cells, or the mask has a wrong length (refusal 31).
 pub enum MaskTotalsAnswer {
@@ -107,17 +108,18 @@ fn add_totals(s: Totals, t: Totals) -> Totals
     }
 }
 
-// The six totals of the ground under the marked cells.
+// The six totals of the ground under the marked cells. The table of square sums is built once a call.
 pub fn mask_totals(words: &[u64]) -> MaskTotalsAnswer
     ensures { λ r. ⌜ totalsReading r ≡ maskTotalsCall (now (words .entry)) ⌝ }
 {
     if wrong_length(words.len()) {
         return MaskTotalsAnswer::WrongLength;
     }
+    let squares = square_sums();
     let mut totals = no_totals();
     let mut row = 0;
     while row < words.len() / 16 {
-        totals = add_totals(totals, rows::totals_of_row(words, row));
+        totals = add_totals(totals, rows::totals_of_row(words, row, &squares));
         row += 1;
     }
     MaskTotalsAnswer::Accepted(totals)

@@ -6,11 +6,11 @@ use Rattle.cells.proofs.add_run.Tie as tie
 next-found-requires : tie.Need-next-found-requires
 next-found-requires c κs = search needs
 
-add-t4 : tie.Need-add-t4
-add-t4 c = search needs
+add-t5 : tie.Need-add-t5
+add-t5 c = search needs
 
 returns : tie.Need-returns
 returns c = rw (c .before .next-found .ensures)
 
 pub add-run-spec : {M : Type 1} → statement M
-add-run-spec = tie.close (tie.spec next-found-requires add-t4 returns)
+add-run-spec = tie.close (tie.spec next-found-requires add-t5 returns)

@@ -1,12 +1,15 @@
 -- `cells::next_found` meets its contract: case by case of what was found so far, its tests are the definition's.
-use mathlib.Core.Path.{_≡_, sym, subst}
+use mathlib.Core.Path.{_≡_, sym, ap, _∙_, subst}
 use mathlib.Core.Bool.{false}
 use Prim.Native.Nat.{_^_}
 use borrow.Author.Needs.{needs}
 use Rattle.cells.specs.RegionCall.{badRun}
+use Rattle.cell_ground.specs.CellSums.{sumsOver}
 use Rattle.cell_ground.specs.private.SumBounds.{SumsWithin}
-use Rattle.cells.specs.private.Scan.{sumsOf, foundWith}
+use Rattle.cells.specs.RunCells.{cellsOf}
+use Rattle.cells.specs.private.Scan.{held, sumsOf, foundWith}
 use Rattle.integers.proofs.Flags.{tells}
+use Rattle.cells.proofs.AnnexSums.{by-annex}
 use Rattle.cells.proofs.GridLaws.{in-grid, run-within}
 use Rattle.cells.proofs.next_found.Statement.{statement}
 use Rattle.cells.proofs.next_found.Tie as tie
@@ -14,7 +17,7 @@ use Rattle.cells.proofs.next_found.Tie as tie
 -- ---- the places of a run that follows sums so far
 
 abbrev matched : tie.After-known-told → tie.Start
-matched c = c .before .before .before .before
+matched c = c .before .before .before .before .before
 
 abbrev tested-6 : tie.Else1 → tie.After-known-told
 tested-6 c = c .before .before
@@ -42,12 +45,18 @@ returns-2 c =
 run-sums-requires : tie.Need-run-sums-requires
 run-sums-requires c κs = in-grid _ (not-bad (past-6 c))
 
+summed-run : (c : tie.After-run-sums) → c .run-sums .result ≡ held (sumsOver (cellsOf (matched (tested-6 (past-6 (c .before))) .args .run)))
+summed-run c =
+    let good = past-6 (c .before) in
+    let start = matched (tested-6 good) in
+    c .run-sums .ensures ∙ ap held (by-annex (start .args .run) (start .pre .1) (in-grid _ (not-bad good) .end))
+
 add-sums-requires : tie.Need-add-sums-requires
 add-sums-requires c κs =
     let good = past-6 (c .before) in
     let known = tested-6 good in
     let start = matched known in
-    (rw (known .before .found .given .1) at (start .pre .sums), subst (λ s. SumsWithin (2 ^ 10) (sumsOf s)) (sym (c .run-sums .ensures)) (run-within (start .args .run) (in-grid _ (not-bad good))))
+    (rw (known .before .found .given .1) at (start .pre .0 .sums), subst (λ s. SumsWithin (2 ^ 10) (sumsOf s)) (sym (summed-run c)) (run-within (start .args .run) (in-grid _ (not-bad good))))
 
 returns-3 : tie.Need-returns-3
 unfolding foundWith
@@ -59,7 +68,7 @@ returns-4 c =
     let summed = c .before in
     let in-order = summed .before in
     let good = past-6 in-order in
-    rw (c .add-sums .ensures, summed .run-sums .ensures, tested-6 good .before .found .given .1, not-bad good, tells (in-order .before .out-of-order .ensures) (in-order .if2 .left))
+    rw (tested-6 good .before .found .given .1, not-bad good, tells (in-order .before .out-of-order .ensures) (in-order .if2 .left), c .add-sums .ensures, summed-run summed)
 
 returns-5 : tie.Need-returns-5
 unfolding foundWith

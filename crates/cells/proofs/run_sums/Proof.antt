@@ -1,5 +1,5 @@
--- `cells::run_sums` meets its contract: every step fits, and what it computes is the run's sums in closed form.
-use mathlib.Core.Path.{_≡_, sym, _∙_, ap}
+-- `cells::run_sums` meets its contract: every step fits, whatever the table has, and what it computes are the sums by those below the run's ends.
+use mathlib.Core.Path.{_≡_, _∙_}
 use mathlib.Core.List.{List, [], _∷_}
 use Prim.Native.Nat.{ℕ, _+_, _≤_, _^_}
 use native.Mathlib.Omega.{arith}
@@ -13,15 +13,13 @@ use Rattle.cell_ground.specs.Ground.{rowSums}
 use Rattle.cells.specs.declared.Run.{Run}
 use Rattle.cells.specs.declared.CellSums as Code
 use Rattle.cells.specs.private.Scan.{held}
-use Rattle.cells.specs.RunCells.{cellsOf}
-use Rattle.cells.proofs.ClosedSums.{run-closed}
-use Rattle.column_sums.proofs.SumBounds.{index-sized, square-sized}
+use Rattle.column_sums.proofs.SumBounds.{index-sized, entry-sized}
 use Rattle.cells.proofs.run_sums.Statement.{statement}
 use Rattle.cells.proofs.run_sums.Tie as tie
 
 -- ---- what the code computes, of a run's length and row and the sums below its ends: a and e of indices, s and f of squares
 
-difference-fits : (e a : ℤ) → natAbs e ≤ 2 ^ 30 → natAbs a ≤ 2 ^ 30 → SFits w64 (i64 e -ℤ i64 a)
+difference-fits : (e a : ℤ) → natAbs e ≤ 2 ^ 32 → natAbs a ≤ 2 ^ 32 → SFits w64 (i64 e -ℤ i64 a)
 difference-fits e a h k = fits (sized e h ∷ sized a k ∷ []) (search code depth 40) tt
 
 record Numbers : Type 0 where
@@ -35,8 +33,8 @@ record Numbers : Type 0 where
   y-small : y ≤ 1024
   a-small : natAbs a ≤ 2 ^ 20
   e-small : natAbs e ≤ 2 ^ 20
-  s-small : natAbs s ≤ 2 ^ 30
-  f-small : natAbs f ≤ 2 ^ 30
+  s-small : natAbs s ≤ 2 ^ 32
+  f-small : natAbs f ≤ 2 ^ 32
 
 module _ (v : Numbers) where
   abbrev operands : List Sized
@@ -99,31 +97,10 @@ module _ (v : Numbers) where
 -- ---- the needs
 
 cast-first : tie.Need-cast-first
-cast-first c = omega (arith, c .before .pre .end)
-
-add-end : tie.Need-add-end
-add-end c = search needs
+cast-first c = omega (arith, c .before .before .pre .end)
 
 cast-end : tie.Need-cast-end
-cast-end c = omega (arith, c .before .before .pre .end)
-
-cast-n : tie.Need-cast-n
-cast-n c = search needs
-
-cast-y : tie.Need-cast-y
-cast-y c = search needs
-
-index-sum-requires : tie.Need-index-sum-requires
-index-sum-requires c κs = search needs
-
-index-sum-requires-2 : tie.Need-index-sum-requires-2
-index-sum-requires-2 c κs = search needs
-
-square-sum-requires : tie.Need-square-sum-requires
-square-sum-requires c κs = search needs
-
-square-sum-requires-2 : tie.Need-square-sum-requires-2
-square-sum-requires-2 c κs = search needs
+cast-end c = omega (arith, c .before .before .before .pre .end)
 
 module _ (s : tie.Start) where
   abbrev run : Run
@@ -132,9 +109,12 @@ module _ (s : tie.Start) where
   first-below : run .first ≤ 1024
   first-below = omega (arith, s .pre .end)
 
+abbrev lent : tie.After-struct-known4 → tie.After-shared-slice-known
+lent c = c .before .before .before .before
+
 module _ (c : tie.After-index-sum2) where
   abbrev start : tie.Start
-  start = c .before .before .before .before .before .before
+  start = lent (c .before .before) .before
 
   end-size : natAbs (c .before .index-sum .result) ≤ 2 ^ 20
   end-size = index-sized (run start .first + run start .length) (start .pre .end) (c .before .index-sum .ensures)
@@ -142,15 +122,18 @@ module _ (c : tie.After-index-sum2) where
   first-size : natAbs (c .index-sum2 .result) ≤ 2 ^ 20
   first-size = index-sized (run start .first) (first-below start) (c .index-sum2 .ensures)
 
-module _ (c : tie.After-square-sum2) where
+module _ (c : tie.After-entry-at2) where
   abbrev mid : tie.After-index-sum2
   mid = c .before .before
 
-  end-square : natAbs (c .before .square-sum .result) ≤ 2 ^ 30
-  end-square = square-sized (run (start mid) .first + run (start mid) .length) (start mid .pre .end) (c .before .square-sum .ensures)
+  abbrev table : tie.After-shared-slice-known
+  table = lent (mid .before .before)
 
-  first-square : natAbs (c .square-sum2 .result) ≤ 2 ^ 30
-  first-square = square-sized (run (start mid) .first) (first-below (start mid)) (c .square-sum2 .ensures)
+  end-square-size : natAbs (c .before .entry-at .result) ≤ 2 ^ 32
+  end-square-size = entry-sized (c .before .entry-at .ensures) (table .shared-slice-known .given _ .fits)
+
+  first-square-size : natAbs (c .entry-at2 .result) ≤ 2 ^ 32
+  first-square-size = entry-sized (c .entry-at2 .ensures) (table .shared-slice-known .given _ .fits)
 
   abbrev numbers : Numbers
   numbers =
@@ -159,41 +142,47 @@ module _ (c : tie.After-square-sum2) where
         y = run (start mid) .row;
         a = mid .index-sum2 .result;
         e = mid .before .index-sum .result;
-        s = c .square-sum2 .result;
-        f = c .before .square-sum .result;
+        s = c .entry-at2 .result;
+        f = c .before .entry-at .result;
         n-small = omega (arith, start mid .pre .end);
         y-small = omega (arith, start mid .pre .row);
         a-small = first-size mid;
         e-small = end-size mid;
-        s-small = first-square;
-        f-small = end-square;
+        s-small = first-square-size;
+        f-small = end-square-size;
       }
 
-sub-x : tie.Need-sub-x
-sub-x c = difference-fits (c .before .index-sum .result) (c .index-sum2 .result) (omega (arith, end-size c)) (omega (arith, first-size c))
+columns-fit : tie.Need-sub-x
+columns-fit c = difference-fits (c .before .index-sum .result) (c .index-sum2 .result) (omega (arith, end-size c)) (omega (arith, first-size c))
 
-sub-xx : tie.Need-sub-xx
-sub-xx c = difference-fits (c .before .square-sum .result) (c .square-sum2 .result) (end-square c) (first-square c)
-
-mul-t9 : tie.Need-mul-t9
-mul-t9 c = ny-fits (numbers c)
-
-mul-t10 : tie.Need-mul-t10
-mul-t10 c = xy-fits (numbers c)
-
-mul-t11 : tie.Need-mul-t11
-mul-t11 c = ny-fits (numbers c)
-
-mul-t12 : tie.Need-mul-t12
-mul-t12 c = yy-fits (numbers c)
+squares-fit : tie.Need-sub-xx
+squares-fit c = difference-fits (c .before .entry-at .result) (c .entry-at2 .result) (end-square-size c) (first-square-size c)
 
 returns : tie.Need-returns
-unfolding cellsOf
 returns c =
     let r = run (start (mid c)) in
     computed (numbers c)
-    ∙ (λ i. held (rowSums (pos (r .row)) (pos (r .length)) (mid c .before .index-sum .ensures i -ℤ mid c .index-sum2 .ensures i) (c .before .square-sum .ensures i -ℤ c .square-sum2 .ensures i)))
-    ∙ sym (ap held (run-closed (r .row) (r .first) (r .length)))
+    ∙ (λ i. held (rowSums (pos (r .row)) (pos (r .length)) (mid c .before .index-sum .ensures i -ℤ mid c .index-sum2 .ensures i) (c .before .entry-at .ensures i -ℤ c .entry-at2 .ensures i)))
 
 pub run-sums-spec : {M : Type 1} → statement M
-run-sums-spec = tie.close (tie.spec cast-first add-end cast-end cast-n cast-y index-sum-requires index-sum-requires-2 sub-x square-sum-requires square-sum-requires-2 sub-xx mul-t9 mul-t10 mul-t11 mul-t12 returns)
+run-sums-spec =
+    tie.close
+    (tie.spec
+    cast-first
+    (λ c. search needs)
+    cast-end
+    (λ c. search needs)
+    (λ c. search needs)
+    (λ c κs. search needs)
+    (λ c κs. search needs)
+    columns-fit
+    (λ c. search needs)
+    (λ c κs. search needs)
+    (λ c. search needs)
+    (λ c κs. search needs)
+    squares-fit
+    (λ c. ny-fits (numbers c))
+    (λ c. xy-fits (numbers c))
+    (λ c. ny-fits (numbers c))
+    (λ c. yy-fits (numbers c))
+    returns)

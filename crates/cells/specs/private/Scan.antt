@@ -1,8 +1,10 @@
 -- The accumulator of the call on a list of runs: what one run more makes of it, the answer at the end, and the bounds within which its sums are computed.
 use Prim.Native.Nat.{ℕ, _+_, _<_, _≤_, _^_}
 use mathlib.Core.Bool.{not, cond}
+use lib.IntN.{pos, _-ℤ_}
+use Rattle.column_sums.specs.SumsBelow.{indexSum}
 use Rattle.cell_ground.specs.CellSums.{CellSums, noSums, plusSums, sumsOver}
-use Rattle.cell_ground.specs.Ground.{groundTotals}
+use Rattle.cell_ground.specs.Ground.{groundTotals, rowSums}
 use Rattle.cell_ground.specs.private.SumBounds.{SumsWithin}
 use Rattle.cells.specs.declared.CellSums as Code
 use Rattle.cells.specs.declared.Run.{Run}
@@ -21,6 +23,12 @@ held s = record { count = s .count; x = s .x; y = s .y; xx = s .xx; xy = s .xy; 
 
 abbrev pub sumsOf : Code.CellSums → CellSums
 sumsOf s = record { count = s .count; x = s .x; y = s .y; xx = s .xx; xy = s .xy; yy = s .yy }
+
+-- The sums of a run by those below its ends, where `squares` has the sums of squares below each column.
+abbrev pub sumsBy : (ℕ → ℕ) → Run → CellSums
+sumsBy squares r =
+    let end = r .first + r .length in
+    rowSums (pos (r .row)) (pos (r .length)) (pos (indexSum end) -ℤ pos (indexSum (r .first))) (pos (squares end) -ℤ pos (squares (r .first)))
 
 -- ---- the scan
 

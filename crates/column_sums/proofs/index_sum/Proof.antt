@@ -1,7 +1,7 @@
 -- `column_sums::index_sum` meets its contract: every step fits, and the division by 2 leaves no remainder.
 use Prim.Native.Nat.{ℕ, _*_, _-_, _/_, _≤_, _^_}
 use native.Mathlib.Omega.{arith}
-use Rattle.column_sums.proofs.ClosedFormulas.{index-closed, at-most-square, square-below, cast-is}
+use Rattle.column_sums.proofs.ClosedFormula.{index-closed, at-most-square, square-below, cast-is}
 use Rattle.column_sums.proofs.index_sum.Statement.{statement}
 use Rattle.column_sums.proofs.index_sum.Tie as tie
 

@@ -34,10 +34,10 @@ record FirstRows (ws : List ℕ) (totals : Totals) (n : ℕ) : Type 0 where
   is : totals ≡ groundOf (firstRows ws n)
 
 abbrev Inv-loop : tie.InvT-loop
-Inv-loop words totals₀ row₀ totals row = FirstRows words totals row
+Inv-loop words squares totals₀ row₀ totals row = FirstRows words totals row
 
 abbrev μ-loop : tie.MeasureT-loop
-μ-loop words totals₀ row₀ totals row = length words / 16 - row
+μ-loop words squares totals₀ row₀ totals row = length words / 16 - row
 
 no-rows : (ws : List ℕ) → zeros ≡ groundOf (firstRows ws 0)
 unfolding markedBetween those cellsOn sumsOver groundOf
@@ -60,12 +60,12 @@ right-accepted ws e = rw (e, all-rows ws)
 
 -- ---- the needs
 
-module _ (c : tie.Else1 Inv-loop μ-loop) where
+module _ (c : tie.After-square-sums Inv-loop μ-loop) where
   abbrev words : List ℕ
-  words = c .before .before .before .args .words .now
+  words = c .before .before .before .before .args .words .now
 
   right-length : wrongLength (length words) ≡ false
-  right-length = tells (c .before .wrong-length .ensures) (c .if1 .left)
+  right-length = tells (c .before .before .wrong-length .ensures) (c .before .if1 .left)
 
   most-rows : length words / 16 ≤ 1024
   most-rows = rows-in-grid (length words) right-length
@@ -74,24 +74,26 @@ loop-holds : tie.Need-loop-holds Inv-loop μ-loop
 loop-holds c = record { most = omega arith; is = c .no-totals .ensures ∙ no-rows (words (c .before)) }
 
 totals-of-row-requires : tie.Need-totals-of-row-requires Inv-loop μ-loop
-totals-of-row-requires c κs = let found = c .before .before .before in (omega (arith, c .loop-test .taken), omega (arith, c .loop-test .taken, most-rows found))
+totals-of-row-requires c κs =
+    let inside = c .before .loop-test .taken in
+    let found = c .before .before .before .before in (omega (arith, inside), (omega (arith, inside, most-rows found), found .square-sums .ensures))
 
 add-totals-requires : tie.Need-add-totals-requires Inv-loop μ-loop
 add-totals-requires c κs =
-    let here = c .before .before in
+    let here = c .before .before .before in
     let found = here .before .before in
     let n = here .loop .row in
-    let inside = c .before .loop-test .taken in (
+    let inside = c .before .before .loop-test .taken in (
       subst (λ t. exceed outlineBounds t ≡ false) (sym (here .loop .inv .is)) (between-bounded (words found) 0 (1024 * n) (omega arith) (omega (arith, inside, most-rows found))),
       subst (λ t. exceed outlineBounds t ≡ false) (sym (c .totals-of-row .ensures)) (between-bounded (words found) (1024 * n) (1024 * (n + 1)) (omega arith) (omega (arith, inside, most-rows found))),
     )
 
 loop-again : tie.Need-loop-again Inv-loop μ-loop
 loop-again c =
-    let here = c .before .before .before in
+    let here = c .before .before .before .before in
     let added = c .before .totals-of-row .ensures in
     record {
-      most = omega (arith, c .before .before .loop-test .taken);
+      most = omega (arith, c .before .before .before .loop-test .taken);
       is = c .add-totals .ensures ∙ ap (plus (here .loop .totals)) added ∙ row-added (words (here .before .before)) (here .loop .totals) (here .loop .row) (here .loop .inv .is);
     }
 
@@ -114,7 +116,9 @@ mask-totals-spec =
     (λ c κs. search needs)
     returns
     (λ c κs. search needs)
+    (λ c κs. search needs)
     loop-holds
+    (λ c. search needs)
     totals-of-row-requires
     add-totals-requires
     (λ c. omega arith)

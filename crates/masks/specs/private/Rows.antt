@@ -1,7 +1,7 @@
 -- The sums over cells of a row as the code takes them, and how large they get.
 use Prim.Native.Nat.{ℕ, _*_, _≤_, _^_}
 use lib.IntN.{pos, natAbs, _+ℤ_, _-ℤ_}
-use Rattle.column_sums.specs.SumsBelow.{indexSum, squareSum}
+use Rattle.column_sums.specs.SumsBelow.{indexSum}
 use Rattle.cell_ground.specs.CellSums.{CellSums}
 use Rattle.masks.specs.declared.rows.RowSums.{RowSums}
 
@@ -9,9 +9,9 @@ use Rattle.masks.specs.declared.rows.RowSums.{RowSums}
 abbrev pub threeOf : CellSums → RowSums
 threeOf s = record { count = s .count; x = s .x; xx = s .xx }
 
--- With the columns from `first` up to `end`; no cell is counted.
-abbrev pub withSpan : RowSums → ℕ → ℕ → RowSums
-withSpan s first end = record { count = s .count; x = s .x +ℤ (pos (indexSum end) -ℤ pos (indexSum first)); xx = s .xx +ℤ (pos (squareSum end) -ℤ pos (squareSum first)) }
+-- With the columns from `first` up to `end`, where `squares` has the sums of squares below each column; no cell is counted.
+abbrev pub withSpan : (ℕ → ℕ) → RowSums → ℕ → ℕ → RowSums
+withSpan squares s first end = record { count = s .count; x = s .x +ℤ (pos (indexSum end) -ℤ pos (indexSum first)); xx = s .xx +ℤ (pos (squares end) -ℤ pos (squares first)) }
 
 -- With the columns of further cells; no cell is counted.
 abbrev pub withColumns : RowSums → CellSums → RowSums

@@ -1,35 +1,46 @@
 -- `masks::rows::add_columns` meets its contract. The invariant: the columns of the marked cells below the next set bit are added.
 use mathlib.Core.Path.{_≡_, sym, ap, ap₂, _∙_, subst}
+use mathlib.Core.List.{List}
 use Prim.Native.Nat.{ℕ, _+_, _-_, _*_, _%_, _≤_, _<_}
 use native.Mathlib.Omega.{arith}
+use lib.IntN.{pos, _+ℤ_, _-ℤ_}
+use lib.ListN.{getD}
 use borrow.Author.Needs.{needs}
 use Rattle.integers.proofs.Order.{natAbs-add}
+use Rattle.column_sums.specs.SumsBelow.{indexSum, squareSum}
+use Rattle.column_sums.specs.Annex.{squareSums}
+use Rattle.column_sums.proofs.Entries.{difference-is}
 use Rattle.cell_ground.specs.CellSums.{sumsOver}
 use Rattle.mask_cells.specs.private.WordCells.{wordCells}
 use Rattle.mask_cells.proofs.WordCells.{column}
 use Rattle.mask_cells.proofs.WordGround.{word-within}
+use Rattle.masks.specs.declared.rows.RowSums.{RowSums}
 use Rattle.masks.specs.private.Rows.{withSpan, withColumns, RowWithin}
 use Rattle.masks.proofs.RunsOfWord.{SumsBelow, at-set-bit, end-below, run-not-empty, set-from, with-run, no-columns}
 use Rattle.masks.proofs.rows.add_columns.Statement.{statement}
 use Rattle.masks.proofs.rows.add_columns.Tie as tie
 
 abbrev Inv-loop : tie.InvT-loop
-Inv-loop word k base sums start₀ more start = SumsBelow word k sums more start
+Inv-loop word k squares base sums start₀ more start = SumsBelow word k sums more start
 
 abbrev μ-loop : tie.MeasureT-loop
-μ-loop word k base sums start₀ more start = 64 - start
+μ-loop word k squares base sums start₀ more start = 64 - start
 
 loop-holds : tie.Need-loop-holds Inv-loop μ-loop
-loop-holds c = let s = c .before .args in at-set-bit (s .word) (s .k) 0 (c .first-set .result) (s .sums) _ (omega arith) (c .first-set .ensures) (no-columns (s .word) (s .k) (s .sums))
+loop-holds c = let s = c .before .before .args in at-set-bit (s .word) (s .k) 0 (c .first-set .result) (s .sums) _ (omega arith) (c .first-set .ensures) (no-columns (s .word) (s .k) (s .sums))
 
 -- ---- one run more
+
+-- What is read from the annex are the sums of squares.
+from-annex : {table : List ℕ} (s : RowSums) (first end : ℕ) → table ≡ squareSums → first ≤ 1024 → end ≤ 1024 → withSpan (λ k. getD table k 0) s first end ≡ withSpan squareSum s first end
+from-annex s first end annex f e = λ i. record { count = s .count; x = s .x +ℤ (pos (indexSum end) -ℤ pos (indexSum first)); xx = s .xx +ℤ difference-is first end annex f e i }
 
 module _ (c : tie.After-first-clear Inv-loop μ-loop) where
   abbrev here : tie.At-loop Inv-loop μ-loop
   here = c .before .before
 
   abbrev entry : tie.Start Inv-loop μ-loop
-  entry = here .before .before
+  entry = here .before .before .before
 
   abbrev word : ℕ
   word = entry .args .word
@@ -53,7 +64,7 @@ module _ (c : tie.After-first-clear Inv-loop μ-loop) where
 add-span-requires : tie.Need-add-span-requires Inv-loop μ-loop
 add-span-requires c κs =
     let before = entry c .args .sums in
-    let small = word-within (word c) (k c) (start c) (entry c .pre .1) (here c .loop .inv .below) in
+    let small = word-within (word c) (k c) (start c) (entry c .pre .1 .0) (here c .loop .inv .below) in
     let sums = sumsOver (wordCells (word c) (k c) (start c)) in
     let within : RowWithin 2048 (withColumns before sums) =
     record {
@@ -79,15 +90,16 @@ loop-again c =
     let before = entry found .args .sums in
     let sums : c .before .add-span .result ≡ withColumns before (sumsOver (wordCells (word found) (k found) (end found))) =
     c .before .add-span .ensures
-    ∙ ap₂ (withSpan (here found .loop .more)) (base-column found (start found)) (base-column found (end found))
-    ∙ ap (λ s. withSpan s (column (k found) (start found)) (column (k found) (end found))) (inv .columns)
+    ∙ from-annex (here found .loop .more) _ _ (entry found .pre .1 .1) (omega (arith, inv .below)) (omega (arith, end-within found))
+    ∙ ap₂ (withSpan squareSum (here found .loop .more)) (base-column found (start found)) (base-column found (end found))
+    ∙ ap (λ s. withSpan squareSum s (column (k found) (start found)) (column (k found) (end found))) (inv .columns)
     ∙ sym (with-run (word found) (k found) (start found) (end found) (inv .below) (found .first-clear .ensures) before)
     in at-set-bit (word found) (k found) (end found) (c .first-set2 .result) before _ (end-within found) (c .first-set2 .ensures) sums
 
 returns : tie.Need-returns Inv-loop μ-loop
 returns c =
     let here = c .before in
-    let s = here .before .before .args in
+    let s = here .before .before .before .args in
     let all : here .loop .start ≡ 64 = omega (arith, here .loop .inv .below) in
     here .loop .inv .columns ∙ ap (λ n. withColumns (s .sums) (sumsOver (wordCells (s .word) (s .k) n))) all
 

@@ -1,4 +1,4 @@
--- `masks::rows::add_span` meets its contract: every step fits.
+-- `masks::rows::add_span` meets its contract: every step fits, whatever the table has.
 use mathlib.Core.Path.{_≡_, _∙_}
 use mathlib.Core.List.{List, [], _∷_}
 use Prim.Native.Nat.{_≤_, _^_}
@@ -9,7 +9,7 @@ use mir.Val.{SFits}
 use borrow.Author.Needs.{needs}
 use Rattle.integers.proofs.SignedCode.{code}
 use Rattle.integers.proofs.SizedNumbers.{i64, Sized, sized, fits, is-plain}
-use Rattle.column_sums.proofs.SumBounds.{index-sized, square-sized}
+use Rattle.column_sums.proofs.SumBounds.{index-sized, entry-sized}
 use Rattle.masks.proofs.Kept.{kept}
 use Rattle.masks.proofs.rows.add_span.Statement.{statement}
 use Rattle.masks.proofs.rows.add_span.Tie as tie
@@ -20,8 +20,8 @@ record Numbers : Type 0 where
   e : ℤ
   a : ℤ
   s-small : natAbs s ≤ 2 ^ 31
-  e-small : natAbs e ≤ 2 ^ 30
-  a-small : natAbs a ≤ 2 ^ 30
+  e-small : natAbs e ≤ 2 ^ 32
+  a-small : natAbs a ≤ 2 ^ 32
 
 module _ (v : Numbers) where
   abbrev operands : List Sized
@@ -43,7 +43,7 @@ module _ (v : Numbers) where
 
 module _ (c : tie.After-index-sum2) where
   abbrev start : tie.Start
-  start = c .before .before
+  start = c .before .before .before
 
   -- The sum of x, and the sums of indices below the end and below the first column.
   abbrev indices : Numbers
@@ -57,20 +57,23 @@ module _ (c : tie.After-index-sum2) where
         a-small = omega (arith, index-sized (start .args .first) (start .pre .1 .0) (c .index-sum2 .ensures));
       }
 
-module _ (c : tie.After-square-sum2) where
+module _ (c : tie.After-entry-at2) where
   abbrev mid : tie.After-index-sum2
   mid = c .before .before
 
-  -- The sum of x², and the sums of squares below the end and below the first column.
+  abbrev lent : tie.After-shared-slice-known
+  lent = mid .before .before
+
+  -- The sum of x², and the two entries that are read.
   abbrev squares : Numbers
   squares =
       record {
         s = start mid .args .sums .xx;
-        e = c .before .square-sum .result;
-        a = c .square-sum2 .result;
+        e = c .before .entry-at .result;
+        a = c .entry-at2 .result;
         s-small = omega (arith, start mid .pre .0 .xx);
-        e-small = omega (arith, square-sized (start mid .args .end) (start mid .pre .1 .1) (c .before .square-sum .ensures));
-        a-small = omega (arith, square-sized (start mid .args .first) (start mid .pre .1 .0) (c .square-sum2 .ensures));
+        e-small = entry-sized (c .before .entry-at .ensures) (lent .shared-slice-known .given _ .fits);
+        a-small = entry-sized (c .entry-at2 .ensures) (lent .shared-slice-known .given _ .fits);
       }
 
 returns : tie.Need-returns
@@ -80,21 +83,21 @@ returns c =
     let entry = start half in
     let e = half .before .index-sum .ensures in
     let a = half .index-sum2 .ensures in
-    let f = both .before .square-sum .ensures in
-    let b = both .square-sum2 .ensures in
     (λ i. record { count = kept (entry .args .sums .count) (omega (arith, entry .pre .0 .count)) i; x = sum-is (indices half) i; xx = sum-is (squares both) i })
-    ∙ (λ i. record { count = entry .args .sums .count; x = entry .args .sums .x +ℤ (e i -ℤ a i); xx = entry .args .sums .xx +ℤ (f i -ℤ b i) })
+    ∙ (λ i. record { count = entry .args .sums .count; x = entry .args .sums .x +ℤ (e i -ℤ a i); xx = entry .args .sums .xx +ℤ (both .before .entry-at .ensures i -ℤ both .entry-at2 .ensures i) })
 
 pub add-span-spec : {M : Type 1} → statement M
 add-span-spec =
     tie.close
     (tie.spec
-    (λ c. record { fits = omega (arith, c .pre .1 .1) })
-    (λ c. record { fits = omega (arith, c .pre .1 .0) })
+    (λ c. record { fits = omega (arith, c .before .pre .1 .1) })
+    (λ c. record { fits = omega (arith, c .before .pre .1 .0) })
     (λ c κs. search needs)
     (λ c κs. search needs)
     (λ c. difference-fits (indices c))
+    (λ c. search needs)
     (λ c κs. search needs)
+    (λ c. search needs)
     (λ c κs. search needs)
     (λ c. difference-fits (squares c))
     (λ c. sum-fits (indices (mid (c .before .before))))

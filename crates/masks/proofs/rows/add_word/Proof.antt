@@ -24,7 +24,7 @@ use Rattle.masks.proofs.rows.add_word.Tie as tie
 
 module _ (c : tie.After-filled) where
   abbrev entry : tie.Start
-  entry = c .before .before
+  entry = c .before .before .before
 
   abbrev before : RowSums
   before = entry .args .sums
@@ -41,7 +41,7 @@ module _ (c : tie.After-filled) where
       ∙ sym (count-cells (wordCells (entry .args .word) (entry .args .k) 64) ∙ ap pos (counted (entry .args .word) (entry .args .k) 64 (omega arith)))
 
   few : natAbs (pos ones) ≤ 64
-  few = subst (λ z. natAbs z ≤ 64) (sym ones-are) (word-within (entry .args .word) (entry .args .k) 64 (entry .pre .1) (omega arith) .count)
+  few = subst (λ z. natAbs z ≤ 64) (sym ones-are) (word-within (entry .args .word) (entry .args .k) 64 (entry .pre .1 .0) (omega arith) .count)
 
   before-small : natAbs (before .count) ≤ totalLimit
   before-small = omega (arith, entry .pre .0 .count)
@@ -75,10 +75,10 @@ module _ (c : tie.After-filled) where
 -- ---- the needs
 
 returns : tie.Need-returns
-returns c = let start = c .before .args in zero-word (start .word) (start .k) (start .sums) (c .if1 .taken)
+returns c = let start = c .before .before .args in zero-word (start .word) (start .k) (start .sums) (c .if1 .taken)
 
-add-t8 : tie.Need-add-t8
-add-t8 c = let at = c .before .before in sum-fits (before at .count) (pos (ones at)) (before-small at) (ones-small at)
+add-t9 : tie.Need-add-t9
+add-t9 c = let at = c .before .before in sum-fits (before at .count) (pos (ones at)) (before-small at) (ones-small at)
 
 add-columns-requires : tie.Need-add-columns-requires
 add-columns-requires c κs = let at = c .before .before .before in (subst (RowWithin 1088) (sym (computed-is at)) (recounted-within at), entry at .pre .1)
@@ -87,4 +87,4 @@ returns-2 : tie.Need-returns-2
 returns-2 c = let at = c .before .before .before .before in c .add-columns .ensures ∙ ap (λ s. withColumns s (sums at)) (computed-is at)
 
 pub add-word-spec : {M : Type 1} → statement M
-add-word-spec = tie.close (tie.spec returns (λ c κs. search needs) (λ c. search needs) add-t8 add-columns-requires returns-2)
+add-word-spec = tie.close (tie.spec returns (λ c κs. search needs) (λ c. search needs) add-t9 add-columns-requires returns-2)

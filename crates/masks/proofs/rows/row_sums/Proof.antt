@@ -25,10 +25,10 @@ record RowSoFar (ws : List ℕ) (row : ℕ) (sums : RowSums) (k : ℕ) : Type 0 
   is : sums ≡ threeOf (sumsOver (markedBetween ws (1024 * row) (64 * k)))
 
 abbrev Inv-loop : tie.InvT-loop
-Inv-loop words row sums₀ k₀ end sums k = RowSoFar words row sums k
+Inv-loop words row squares sums₀ k₀ end sums k = RowSoFar words row sums k
 
 abbrev μ-loop : tie.MeasureT-loop
-μ-loop words row sums₀ k₀ end sums k = end - k
+μ-loop words row squares sums₀ k₀ end sums k = end - k
 
 -- ---- steps
 
@@ -44,24 +44,24 @@ word-added ws row k h =
 -- ---- the needs
 
 loop-holds : tie.Need-loop-holds Inv-loop μ-loop
-loop-holds c = let start = c .before .args in record { from = omega arith; upto = omega arith; is = none-yet (start .words .now) (start .row) }
+loop-holds c = let start = c .before .before .args in record { from = omega arith; upto = omega arith; is = none-yet (start .words .now) (start .row) }
 
 add-word-requires : tie.Need-add-word-requires Inv-loop μ-loop
 add-word-requires c κs =
     let here = c .before .before in
     let inv = here .loop .inv in
-    let start = here .before .before in
+    let start = here .before .before .before in
     let k = here .loop .k in
-    let small = between-within (start .args .words .now) (1024 * start .args .row) (64 * k) (omega (arith, inv .from)) (omega (arith, inv .upto, start .pre .1)) in
+    let small = between-within (start .args .words .now) (1024 * start .args .row) (64 * k) (omega (arith, inv .from)) (omega (arith, inv .upto, start .pre .1 .0)) in
     let within : RowWithin 1024 (threeOf (sumsOver (markedBetween (start .args .words .now) (1024 * start .args .row) (64 * k)))) =
     record { count = omega (arith, inv .upto, small .count); x = omega (arith, inv .upto, small .x); xx = omega (arith, inv .upto, small .xx) }
-    in (subst (RowWithin 1024) (sym (inv .is)) within, omega (arith, c .before .loop-test .taken, start .pre .1))
+    in (subst (RowWithin 1024) (sym (inv .is)) within, (omega (arith, c .before .loop-test .taken, start .pre .1 .0), start .pre .1 .1))
 
 loop-again : tie.Need-loop-again Inv-loop μ-loop
 loop-again c =
     let here = c .before .before .before in
     let inv = here .loop .inv in
-    let start = here .before .before .args in
+    let start = here .before .before .before .args in
     record {
       from = omega (arith, inv .from);
       upto = omega (arith, c .before .before .loop-test .taken);
@@ -74,7 +74,7 @@ loop-again c =
 returns : tie.Need-returns Inv-loop μ-loop
 returns c =
     let here = c .before in
-    let start = here .before .before .args in
+    let start = here .before .before .before .args in
     let all : 64 * here .loop .k ≡ 1024 * (start .row + 1) = omega (arith, here .loop .inv .upto) in
     here .loop .inv .is ∙ ap (λ e. threeOf (sumsOver (markedBetween (start .words .now) (1024 * start .row) e))) all
 
@@ -84,12 +84,12 @@ row-sums-spec =
     (tie.spec
     Inv-loop
     μ-loop
-    (λ c. omega (arith, c .before .pre .1))
-    (λ c. omega (arith, c .before .pre .1))
-    (λ c. omega (arith, c .before .pre .1))
+    (λ c. omega (arith, c .before .before .pre .1 .0))
+    (λ c. omega (arith, c .before .before .pre .1 .0))
+    (λ c. omega (arith, c .before .before .pre .1 .0))
     loop-holds
-    (λ c. let start = c .before .before .before in omega (arith, c .loop-test .taken, start .pre .0))
-    (λ c. let start = c .before .before .before .before in omega (arith, c .before .loop-test .taken, start .pre .0))
+    (λ c. let start = c .before .before .before .before in omega (arith, c .loop-test .taken, start .pre .0))
+    (λ c. let start = c .before .before .before .before .before in omega (arith, c .before .loop-test .taken, start .pre .0))
     add-word-requires
     (λ c. omega arith)
     (λ c. omega arith)

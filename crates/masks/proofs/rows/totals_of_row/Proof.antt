@@ -38,7 +38,7 @@ module _ (z : ℤ) (h : natAbs z ≤ 2 ^ 30) where
 
 module _ (c : tie.After-row-sums) where
   abbrev entry : tie.Start
-  entry = c .before .before
+  entry = c .before .before .before
 
   abbrev cells : List Cell
   cells = rowCells (entry .args .words .now) (entry .args .row)
@@ -47,7 +47,7 @@ module _ (c : tie.After-row-sums) where
   sums = sumsOver cells
 
   row-small : SumsWithin 1024 sums
-  row-small = row-within (entry .args .words .now) (entry .args .row) (entry .pre .1)
+  row-small = row-within (entry .args .words .now) (entry .args .row) (entry .pre .1 .0)
 
   few : length cells ≤ 1024
   few = omega (arith, row-small .count, ap natAbs (count-cells cells))
