@@ -1,7 +1,7 @@
 """Checks of this program by itself: the listing and the ✱ rows of document 01,
 corner cases of its rules, and its laws on made-up outlines; those of islands and
 holes are in selfcheck_rings.py, those of cells and masks in selfcheck_cells.py, those of
-two walkers in selfcheck_walkers.py.
+two walkers in selfcheck_walkers.py, those of the annex in selfcheck_annex.py.
 
 Runnable; prints what fails and exits 1, else prints how many checks passed.
 """
@@ -18,6 +18,7 @@ from inputs import FIGURE_EIGHT, LISTING, RECTANGLE, UNIT_SQUARE, with_tabs
 from madeup import random_points
 from moves import AffineMap, Cut
 from moves import after_cuts, map_call, moved, started_at, walked_backwards
+from selfcheck_annex import check_comparison, check_entries, check_run_sums
 from selfcheck_cells import check_mask_corners, check_mask_laws, check_region_corners, check_worked_regions
 from selfcheck_rings import check_end_order, check_kinds, check_ring_laws, check_turns, check_worked_rings
 from selfcheck_walkers import check_refused_pair, check_walker_corners, check_walker_laws, check_worked_walks
@@ -179,6 +180,9 @@ if __name__ == "__main__":
     check_mask_corners()
     check_worked_walks()
     check_walker_corners()
+    check_entries()
+    check_run_sums()
+    check_comparison()
     made_up = random.Random(1)
     for _ in range(200):
         reach = made_up.choice([2, 30, 500, 2000])

@@ -1,8 +1,10 @@
-"""The rows of "Plots worked by hand" in document 01 that carry no ✱, then rings, masks and pairs of walks of document 02,
-one line each.
+"""The rows of "Plots worked by hand" in document 01 that carry no ✱, then rings, masks, pairs of walks and square sums of
+document 02, one line each.
 
 Fields are separated by tabs: label, what was asked, refusal number (0 if accepted), values.
+Reading a square sum refuses nothing, so its row has no refusal number.
 """
+from annex import annex
 from cells import Run, region_totals
 from figures import CLOSED_WALK, FRESH_ISLAND, NEW_SHEET, TOTAL_LIMIT, ZERO_TOTALS
 from figures import Kind, Sheet, begin, end, list_call, point
@@ -169,6 +171,23 @@ def compare_rows():
     yield compare_row("other-walk", "odd")
 
 
+ANNEX = annex()
+
+
+def square_sum_row(k):
+    """An entry of the annex, 0 past its end.  Asked: its index.  Answered: the entry."""
+    return ["square-sum", k, ANNEX[k] if k < len(ANNEX) else 0]
+
+
+def annex_rows():
+    """The fields of the annex's rows: entries at both its ends, and past them; then the cell in column 0 and a whole row,
+    whose sums of x² are taken from these entries."""
+    for k in (0, 1, 2, 3, 4, 5, 1_023, 1_024, 1_025):
+        yield square_sum_row(k)
+    yield run_row(0, 1)
+    yield run_row(0, 1_024)
+
+
 def rows():
     """The fields of every row."""
     yield limit_row(2000)
@@ -186,6 +205,7 @@ def rows():
     yield from ring_rows()
     yield from mask_rows()
     yield from compare_rows()
+    yield from annex_rows()
 
 
 if __name__ == "__main__":

@@ -1,8 +1,9 @@
-// Document 01, "Plots worked by hand": the plots that carry no ✱, and rings, masks and compared walks of document 02, run through the proved functions. Each prints a
-// row: label, what was asked, number of the refusal (0 where accepted) and values, separated by tabs, as second/worked.py prints them too. The plots marked ✱ are rows of
-// worked_rows/specs/Rows.antt.
+// Document 01, "Plots worked by hand": the plots that carry no ✱, and rings, masks, compared walks and square sums of document 02, run through the proved functions. Each
+// prints a row: label, what was asked, number of the refusal (0 where accepted) and values, separated by tabs, as second/worked.py prints them too. To read a square sum
+// refuses nothing, so its row has no number. The plots marked ✱ are rows of worked_rows/specs/Rows.antt.
 ghost use Prim.Native.Nat.{_≤_};
 
+mod annex_rows;
 mod compare_rows;
 mod mask_rows;
 mod plots;
@@ -116,4 +117,8 @@ fn main() {
     ring_rows::ring_rows();
     mask_rows::mask_rows();
     compare_rows::compare_rows();
+    annex_rows::annex_rows();
+    // Runs whose sums of x² are taken at the ends of the annex.
+    run_row(0, 1);
+    run_row(0, 1024);
 }
