@@ -5,9 +5,10 @@
  * the same mask. Ends with 1 if two of them answer differently. bench/run.py builds it with the library.
  */
 #include "../callers/c/mavrihkel.h"
+#include "cells.h"
 #include "timing.h"
 
-enum { ROWS = 1024, WORDS_IN_A_ROW = 16, WORDS = ROWS * WORDS_IN_A_ROW, COLUMNS = 1024, MOST_RUNS = 4096, SUMS = 6, TIMES = 5 };
+enum { WORDS_IN_A_ROW = 16, WORDS = ROWS * WORDS_IN_A_ROW, TIMES = 5 };
 
 typedef uint32_t totals_call(const uint64_t *words, size_t words_length, int64_t *out, size_t out_length);
 typedef uint32_t runs_call(const uint64_t *words, size_t words_length, struct mavrihkel_run *runs, size_t runs_length, int64_t *out, size_t out_length);
@@ -15,16 +16,6 @@ typedef uint32_t runs_call(const uint64_t *words, size_t words_length, struct ma
 static int wrong_length(size_t length) { return length % WORDS_IN_A_ROW != 0 || length > WORDS; }
 
 /* ---- by trailing zeros */
-
-/* 0 + 1 + .. + (n - 1). */
-static int64_t index_sum(uint64_t n) { return (int64_t)((n * n - n) / 2); }
-
-/* 0² + 1² + .. + (n - 1)². */
-static int64_t square_sum(uint64_t n)
-{
-    uint64_t product = n * n - n;
-    return (int64_t)((2 * n * product - product) / 6);
-}
 
 /* The first place from `from` on, below 64, at which the word has a one; 64 if there is none. */
 static uint32_t first_set(uint64_t word, uint32_t from)
@@ -65,7 +56,7 @@ __attribute__((noinline)) static uint32_t row_totals(const uint64_t *words, size
             for (uint32_t start = first_set(word, 0), end; start < 64; start = first_set(word, end)) {
                 end = first_clear(word, start);
                 x += index_sum(column + end) - index_sum(column + start);
-                xx += square_sum(column + end) - square_sum(column + start);
+                xx += entry_at(column + end) - entry_at(column + start);
             }
         }
         add_row(totals, row, count, x, xx);
@@ -125,18 +116,6 @@ static void add_cell(int64_t *sums, int64_t x, int64_t y)
     sums[3] += x * x;
     sums[4] += x * y;
     sums[5] += y * y;
-}
-
-/* The totals of the ground under cells, by their sums. */
-static void put_totals(int64_t *out, const int64_t *sums)
-{
-    int64_t count = sums[0], x = sums[1], y = sums[2];
-    out[0] = 2 * count;
-    out[1] = 6 * x + 3 * count;
-    out[2] = 6 * y + 3 * count;
-    out[3] = 12 * (sums[3] + x) + 4 * count;
-    out[4] = 24 * sums[4] + 12 * (x + y) + 6 * count;
-    out[5] = 12 * (sums[5] + y) + 4 * count;
 }
 
 __attribute__((noinline)) static uint32_t bit_totals(const uint64_t *words, size_t words_length, int64_t *out, size_t out_length)
@@ -233,6 +212,7 @@ static void table(const char *what, numbered_call *call, int refuses)
 
 int main(void)
 {
+    fill_table();
     table("totals of a mask of 1,024 rows", call_totals, 0);
     putchar('\n');
     table("runs of a mask of 1,024 rows", call_runs, 1);

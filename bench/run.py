@@ -3,9 +3,9 @@
 Then that of the library's calls.
 
 python3 bench/run.py [--rounds N] [--write docs/SPEED.md] [--plots PROGRAM]
-python3 bench/run.py [--walks] [--masks]
+python3 bench/run.py [--walks] [--runs] [--masks]
 
-The second prints the tables of the calls on two walks or on masks, taken from C, alone.
+The second prints the tables of the calls on two walks, on runs or on masks, taken from C, alone.
 
 Builds what it needs and makes the inputs, all under target/. On each input the three programs must
 first write the same bytes; then they are timed in turns. Exits 1 on a difference, and where
@@ -150,6 +150,11 @@ def walk_tables():
     return tables_from_c("walks", *objects)
 
 
+def region_tables():
+    """The ratios of the call on runs, beside the closed formula and beside a table."""
+    return tables_from_c("runs")
+
+
 def mask_tables():
     """The ratios of the calls on masks."""
     return tables_from_c("masks")
@@ -173,6 +178,7 @@ def report(programs, paths, rounds):
         run("rt", "staticlib", "exports")
         text += f"\nCalls of the library from Rust:\n\n{library_tables()}"
         text += f"\nThe call of the library on two walks, from C:\n\n{walk_tables()}"
+        text += f"\nThe call of the library on runs, from C:\n\n{region_tables()}"
         text += f"\nCalls of the library on masks, from C:\n\n{mask_tables()}"
     return text, most < MOST_KILOBYTES
 
@@ -193,6 +199,7 @@ def main():
     parser.add_argument("--write", metavar="FILE", help="put the table into this page")
     parser.add_argument("--plots", metavar="PROGRAM", help="measure this program instead of target/bin/plots")
     parser.add_argument("--walks", action="append_const", dest="alone", const=walk_tables, help="the call on two walks alone")
+    parser.add_argument("--runs", action="append_const", dest="alone", const=region_tables, help="the call on runs alone")
     parser.add_argument("--masks", action="append_const", dest="alone", const=mask_tables, help="the calls on masks alone")
     chosen = parser.parse_args()
     if chosen.alone:

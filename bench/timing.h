@@ -1,5 +1,5 @@
 /*
- * Shared by masks.c and walks.c: calls that do the same work on the same input, known by their numbers, the library's being 0. Their answers are compared, and each is timed.
+ * Shared by masks.c, runs.c and walks.c: calls that do the same work on the same input, known by their numbers, the library's being 0. Their answers are compared, and each is timed.
  */
 #include <stdint.h>
 #include <stdio.h>

@@ -234,12 +234,14 @@ int main(void)
     const int64_t square_centre[] = {1, 1};
     const struct mavrihkel_run sound[] = {{3, 2, 3}, {3, 5, 1}, {4, 0, 2}};
     const struct mavrihkel_run l_shape[] = {{0, 0, 3}, {1, 0, 1}};
+    const struct mavrihkel_run outer_columns[] = {{0, 0, 1}, {0, 1023, 1}, {1, 512, 512}, {1023, 0, 1024}};
     const struct mavrihkel_run overlapping[] = {{3, 2, 3}, {3, 4, 1}};
     const struct mavrihkel_run without_cells[] = {{3, 2, 3}, {3, 4, 1}, {5, 0, 0}};
     static struct mavrihkel_run many[4097];
     const int64_t one_run_totals[] = {6, 63, 63, 468, 882, 444, 0}, one_run_centre[] = {4, 4};
     const int64_t sound_totals[] = {12, 108, 138, 864, 1560, 1080, 0}, sound_centre[] = {3, 4};
     const int64_t l_shape_totals[] = {8, 30, 18, 112, 72, 40, 0}, l_shape_centre[] = {1, 1};
+    const int64_t outer_totals[] = {3076, 5511168, 6292998, INT64_C(8065634312), INT64_C(12892778496), INT64_C(12872337416), 0}, outer_centre[] = {597, 682};
     const int64_t index_1[] = {0, 0, 0, 0, 0, 0, 1};
     const int64_t index_2[] = {0, 0, 0, 0, 0, 0, 2};
     const int64_t zeros[MAVRIHKEL_REGION] = {0};
@@ -261,6 +263,7 @@ int main(void)
     expect_region("run", sound, 1, one_run_totals, one_run_centre);
     expect_region("three runs", sound, LENGTH(sound), sound_totals, sound_centre);
     expect_region("L", l_shape, LENGTH(l_shape), l_shape_totals, l_shape_centre);
+    expect_region("outer columns", outer_columns, LENGTH(outer_columns), outer_totals, outer_centre);
     expect_region("no runs", sound, 0, zeros, zeros);
     expect("run without cells", mavrihkel_region_totals(without_cells, LENGTH(without_cells), fresh(), ROOM), 6, index_2, MAVRIHKEL_REGION);
     expect("overlapping runs", mavrihkel_region_totals(overlapping, LENGTH(overlapping), fresh(), ROOM), 7, index_1, MAVRIHKEL_REGION);
