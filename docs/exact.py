@@ -8,6 +8,7 @@ import math
 import operator
 import re
 from fractions import Fraction
+from itertools import accumulate
 
 TOTALS = ("A2", "X6", "Y6", "XX12", "XY24", "YY12")
 MULTIPLES = (2, 6, 6, 12, 24, 12)    # of the integrals below, in their order
@@ -79,6 +80,8 @@ def half_up(quotient):
 FORMULA_NAME = re.compile("|".join(re.escape(name) for name in sorted(NAMES, key=len, reverse=True)) + "|[A-Za-zΣ∫]+")
 DECIMAL = re.compile(r"(\d+)\.(\d+)")
 ROOT = re.compile(r"√(\d+)")
+ENTRY = re.compile(r"entry (\d+)")
+ANNEX = tuple(accumulate((j * j for j in range(1_024)), initial=0))
 ROOT_PLACES = 20
 SIGNS = {"−": "-", "×": "*", "^": "**", "²": "**2", "³": "**3", "⁴": "**4", "⌊": "floor(", "⌋": ")"}
 OPERATORS = {ast.Add: operator.add, ast.Sub: operator.sub, ast.Mult: operator.mul, ast.Div: operator.truediv,
@@ -89,8 +92,16 @@ class NotAFormula(Exception):
     """The text has a word or a sign that no formula has."""
 
 
+def annex_entry(match):
+    """An entry of the annex, by its index."""
+    if int(match[1]) >= len(ANNEX):
+        raise NotAFormula(match[0])
+    return str(ANNEX[int(match[1])])
+
+
 def value(text, figures):
-    """The value of a formula; KeyError where a name has no figure, ZeroDivisionError where there is none."""
+    """The value of a formula, in which `entry 5` is that of the annex; KeyError where a name has no figure,
+    ZeroDivisionError where there is none."""
     found = []
 
     def numbered(match):
@@ -99,7 +110,8 @@ def value(text, figures):
         found.append(match[0])
         return f"({len(found) - 1},)"
 
-    code = FORMULA_NAME.sub(numbered, re.sub(r"(?<=\d),(?=\d{3})", "", text))
+    text = re.sub(r"(?<=\d),(?=\d{3})", "", text)
+    code = FORMULA_NAME.sub(numbered, ENTRY.sub(annex_entry, text))
     code = DECIMAL.sub(lambda number: f"({int(number[1] + number[2])}/{10 ** len(number[2])})", code)
     code = ROOT.sub(r"root(\1)", code)
     for sign, written in SIGNS.items():
