@@ -29,7 +29,7 @@ past-the-end k h = List·getD-eq-default squareSums 0 (omega (arith, as-many 0 1
 
 -- ---- what is read from a table that is the annex
 
-entry-is : {table : List ℕ} (k : ℕ) → table ≡ squareSums → k ≤ 1024 → getD table k 0 ≡ squareSum k
+pub entry-is : {table : List ℕ} (k : ℕ) → table ≡ squareSums → k ≤ 1024 → getD table k 0 ≡ squareSum k
 entry-is k annex h = ap (λ entries. getD entries k 0) annex ∙ every-entry k h
 
 pub difference-is : {table : List ℕ} (first end : ℕ) → table ≡ squareSums → first ≤ 1024 → end ≤ 1024 → pos (getD table end 0) -ℤ pos (getD table first 0) ≡ pos (squareSum end) -ℤ pos (squareSum first)

@@ -10,7 +10,7 @@ use borrow.Author.Tests.{eqb-true}
 use Rattle.integers.proofs.Flags.{and-left, and-right}
 use Rattle.column_sums.specs.SumsBelow.{squareSum}
 use Rattle.column_sums.specs.Annex.{entriesFrom, squareSums}
-use Rattle.column_sums.proofs.Entries.{every-entry}
+use Rattle.column_sums.proofs.Entries.{entry-is}
 use Rattle.square_table.specs.TableTest.{addsSquares, EntriesByTest}
 
 passed : (k : ℕ) (xs : List ℕ) → addsSquares k (squareSum k) xs ≡ true → xs ≡ entriesFrom k (length xs)
@@ -27,7 +27,7 @@ unfolding squareSum squareSums
 is-annex table n t = passed 0 table t ∙ ap (entriesFrom 0) n
 
 pub entries-by-test : EntriesByTest
-entries-by-test table n t k h = ap (λ xs. getD xs k 0) (is-annex table n t) ∙ every-entry k h
+entries-by-test table n t k h = entry-is k (is-annex table n t) h
 
 -- ---- use: each entry but the first is the one before it and a square more
 
