@@ -10,7 +10,7 @@ use lib.IntN.{ℤ, pos, negℤ, natAbs, _+ℤ_, _-ℤ_, _*ℤ_, +ℤ-idr, +ℤ-a
 use lib.Signed.{_≤ℤ_, _<ℤ_, leZ, ltZ, quotZ, remZ}
 use Rattle.integers.proofs.Ring.{quote}
 use Rattle.integers.proofs.Order.{pp, nn, parts, natAbs-parts, sum-parts, pp-neg, nn-neg, orders, lt-parts, le-true, lt-true, mul-mono, not-lt}
-use Rattle.integers.proofs.Linear.{≤→, →≤, <→}
+use Rattle.integers.proofs.Linear.{≤→, →≤, <→, →<}
 use Rattle.integers.proofs.Floor.{Nearest, floorZ, nearest-is, nearest-unique}
 use Rattle.centroid.specs.Centroid.{isCentre, firstCentre, centre}
 
@@ -95,6 +95,17 @@ nearest-centre n d k h f = nearest-unique n d k (centre n d) h f (test-nearest (
 
 pub centre-only : (n d k : ℤ) → pos 0 <ℤ d → isCentre n d k ≡ true → k ≡ centre n d
 centre-only n d k h e = nearest-centre n d k h (test-nearest e)
+
+-- N greater by j times D has a centre greater by j.
+pub centre-moves : (n d k j : ℤ) → isCentre n d k ≡ true → isCentre (n +ℤ j *ℤ d) d (k +ℤ j) ≡ true
+centre-moves n d k j e =
+    let ρ = n ∷ d ∷ k ∷ j ∷ [] in
+    let f = test-nearest e in
+    nearest-test
+    (record {
+      low = →≤ ρ (search quote depth 20) (search quote depth 20) (omega (arith, ≤→ ρ (search quote depth 20) (search quote depth 20) (f .low)));
+      high = →< ρ (search quote depth 20) (search quote depth 20) (omega (arith, <→ ρ (search quote depth 20) (search quote depth 20) (f .high)));
+    })
 
 -- What the code returns: the quotient toward zero of 2×N + D and 2×D, less 1 where the remainder is negative.
 pub rounded-down : (n d : ℤ) → pos 0 <ℤ d → (b : Bool) {z : ℤ} → ltZ (remZ (pos 2 *ℤ n +ℤ d) (pos 2 *ℤ d)) (pos 0) ≡ b → z ≡ cond b (quotZ (pos 2 *ℤ n +ℤ d) (pos 2 *ℤ d) -ℤ pos 1) (quotZ (pos 2 *ℤ n +ℤ d) (pos 2 *ℤ d)) → z ≡ centre n d

@@ -1,0 +1,6 @@
+pub mod Composition
+pub mod MovedTwice
+pub mod ShiftedCentre
+mod WorkedMoves
+mod MoveUses
+mod ShiftUses

@@ -1,0 +1,88 @@
+-- The statements of document 02's CR 7 used, so that a weaker one is refused here: with every quantifier left free, and at the edge of what each covers.
+use mathlib.Core.Path.{_≡_, refl, sym, _∙_, ap}
+use mathlib.Core.Bool.{true, false, cond}
+use mathlib.Core.List.{List, [], _∷_}
+use Prim.Native.Nat.{_^_}
+use lib.IntN.{ℤ, pos, negsuc}
+use Rattle.outline.specs.declared.Position.{Position}
+use Rattle.outline.specs.declared.Totals.{Totals}
+use Rattle.outline.specs.declared.AffineMap.{AffineMap}
+use Rattle.outline.specs.EdgeSums.{openEdges, edges, sumOver, outlineTotals, over}
+use Rattle.outline.specs.ListCall.{accepted, refused, points, numbers, outside, anyOutside, wrongLength, listCall}
+use Rattle.outline.specs.MapCall.{movePoint, moved, disallowed, mapped, mapCall}
+use Rattle.centroid.proofs.WorkedCentres.{totals}
+use Rattle.moves.specs.Composition.{composed}
+use Rattle.moves.specs.MovedTwice.{OutlineCalls}
+use Rattle.moves.specs.ShiftedCentre.{shift}
+use Rattle.moves.proofs.Composition.{composition-means, formulas-twice}
+use Rattle.moves.proofs.MovedTwice.{calls-twice, third-call, outline-twice, outline-calls-twice}
+use Rattle.moves.proofs.WorkedMoves.{threeEast, quarterTurn, rectangle, shifted, shiftedThenTurned, rectangle-moved}
+
+-- ---- points and formulas
+
+-- Three maps, one after the other: how they are put together makes no difference.
+three-maps : (one two three : AffineMap) → composed (composed one two) three ≡ composed one (composed two three)
+three-maps one two three = composition-means one (composed two three) (composed (composed one two) three) .1 (λ p. each (composed one two) three p ∙ ap (movePoint three) (each one two p) ∙ sym (each two three (movePoint one p)))
+  where
+    each : (first second : AffineMap) (p : Position) → movePoint (composed first second) p ≡ movePoint second (movePoint first p)
+    each first second p = composition-means first second (composed first second) .0 refl p
+
+three-times : (one two three : AffineMap) (t : Totals) → mapped three (mapped two (mapped one t)) ≡ mapped (composed one (composed two three)) t
+three-times one two three t = formulas-twice two three (mapped one t) ∙ formulas-twice one (composed two three) t
+
+-- Totals and maps past every limit; and a first map without area, u = x + 5, v = 2x − 5.
+abbrev huge : Totals
+huge = totals (pos (10 ^ 30)) (negsuc (10 ^ 31)) (pos 7) (pos (10 ^ 32)) (pos 1) (negsuc 8)
+
+abbrev hugeMap : AffineMap
+hugeMap = record { a = pos 9; b = negsuc 99; g = pos 3; h = pos 1000; e = pos (10 ^ 9); f = negsuc 4 }
+
+abbrev flat : AffineMap
+flat = record { a = pos 1; b = pos 0; g = pos 2; h = pos 0; e = pos 5; f = negsuc 4 }
+
+past-every-limit : mapped hugeMap (mapped hugeMap huge) ≡ mapped (composed hugeMap hugeMap) huge
+past-every-limit = formulas-twice hugeMap hugeMap huge
+
+flat-first : mapped quarterTurn (mapped flat huge) ≡ mapped (composed flat quarterTurn) huge
+flat-first = formulas-twice flat quarterTurn huge
+
+-- ---- the map call
+
+any-calls : (first second : AffineMap) (t once twice direct : Totals) → mapCall first t ≡ accepted once → mapCall second once ≡ accepted twice → mapCall (composed first second) t ≡ accepted direct → twice ≡ direct
+any-calls first second t once twice direct one two three = calls-twice first second t once one twice two direct three
+
+any-third-call : (first second : AffineMap) (t once twice : Totals) → mapCall first t ≡ accepted once → mapCall second once ≡ accepted twice → mapCall (composed first second) t ≡ cond (disallowed (composed first second)) (refused 3) (accepted twice)
+any-third-call first second t once twice one two = third-call first second t once one twice two
+
+-- The rectangle shifted, then turned: the third call has nothing else to answer.
+turned-rectangle : (direct : Totals) → mapCall (composed threeEast quarterTurn) rectangle ≡ accepted direct → shiftedThenTurned ≡ direct
+turned-rectangle direct three = calls-twice threeEast quarterTurn rectangle shifted (rectangle-moved .shift-first) shiftedThenTurned (rectangle-moved .then-turn) direct three
+
+-- ---- outlines
+
+any-points : (first second : AffineMap) (ps : List Position) → (moved second (moved first ps) ≡ moved (composed first second) ps) × (outlineTotals (moved second (moved first ps)) ≡ mapped (composed first second) (outlineTotals ps))
+any-points first second ps = let k = outline-twice first second ps in (k .places, k .totals)
+
+any-outline : (zs : List ℤ) (t : Totals) → listCall zs ≡ accepted t → (first second : AffineMap) → anyOutside (moved second (moved first (points zs))) ≡ false → OutlineCalls first second zs t
+any-outline zs t taken first second bounds = outline-calls-twice zs t taken first second bounds
+
+-- The way may lead through where 1 refuses: (2, 0) goes to (2,002, 0), and back.
+abbrev rectangleNumbers : List ℤ
+rectangleNumbers = pos 2 ∷ pos 0 ∷ pos 10 ∷ pos 4 ∷ pos 8 ∷ pos 8 ∷ pos 0 ∷ pos 4 ∷ []
+
+abbrev farEast : AffineMap
+farEast = shift (pos 2000) (pos 0)
+
+abbrev farWest : AffineMap
+farWest = shift (negsuc 1999) (pos 0)
+
+rectangle-taken : listCall rectangleNumbers ≡ accepted rectangle
+unfolding openEdges edges sumOver over points outside anyOutside wrongLength listCall
+rectangle-taken = refl
+
+there-and-back : (anyOutside (moved farEast (points rectangleNumbers)) ≡ true) × (anyOutside (moved farWest (moved farEast (points rectangleNumbers))) ≡ false) × (disallowed (composed farEast farWest) ≡ false)
+unfolding over points outside anyOutside disallowed
+there-and-back = (refl, refl, refl)
+
+out-and-in : mapCall (composed farEast farWest) rectangle ≡ listCall (numbers (moved farWest (moved farEast (points rectangleNumbers))))
+out-and-in = outline-calls-twice rectangleNumbers rectangle rectangle-taken farEast farWest (there-and-back .1) .at-once (there-and-back .2)

@@ -1,0 +1,81 @@
+-- Document 02, CR 7: the map call and outlines, moved twice and moved once by the composition.
+use mathlib.Core.Path.{_≡_, refl, sym, _∙_, ap, ap₂}
+use mathlib.Core.Bool.{Bool, true, false, cond}
+use mathlib.Core.List.{List, [], _∷_}
+use native.Mathlib.Omega.{arith}
+use Rattle.outline.specs.declared.Position.{Position}
+use Rattle.outline.specs.declared.Totals.{Totals}
+use Rattle.outline.specs.declared.AffineMap.{AffineMap}
+use Rattle.outline.specs.EdgeSums.{exceed, outlineTotals, outlineBounds}
+use Rattle.outline.specs.ListCall.{accepted, refused, points, numbers, anyOutside, listCall}
+use Rattle.outline.specs.MapCall.{moved, disallowed, mapped, totalLimits, mapCall}
+use Rattle.outline.proofs.IndexLaws.{points-numbers}
+use Rattle.outline.proofs.Limits.{accepts-only-outlines, accepts-points}
+use Rattle.outline.proofs.MapLaw.{map-law, all-stay, moved-outline, map-accepts}
+use Rattle.outline.proofs.PiecesLaws.{moved-only}
+use Rattle.moves.specs.Composition.{composed}
+use Rattle.moves.specs.MovedTwice.{CallsTwice, ThirdCall, OutlineTwice, OutlineCallsTwice}
+use Rattle.moves.proofs.Composition.{composition-means, formulas-twice}
+
+-- ---- the map call
+
+-- What is known where the map call is not refused.
+pub record MapAccepted (m : AffineMap) (t answer : Totals) : Type 0 where
+  pub allowed : disallowed m ≡ false
+  pub in-bounds : exceed outlineBounds t ≡ false
+  pub in-limits : exceed totalLimits answer ≡ false
+  pub is-mapped : answer ≡ mapped m t
+
+pub map-accepted : (m : AffineMap) (t answer : Totals) → mapCall m t ≡ accepted answer → MapAccepted m t answer
+unfolding mapCall
+map-accepted m t answer e = go (disallowed m) (exceed outlineBounds t) (exceed totalLimits (mapped m t)) refl refl refl e
+  where
+    go : (a b c : Bool) → disallowed m ≡ a → exceed outlineBounds t ≡ b → exceed totalLimits (mapped m t) ≡ c → cond a (refused 3) (cond b (refused 4) (cond c (refused 5) (accepted (mapped m t)))) ≡ accepted answer → MapAccepted m t answer
+    go true b c p q r e = absurd (omega (arith, ap (λ o. o .number) e))
+    go false true c p q r e = absurd (omega (arith, ap (λ o. o .number) e))
+    go false false true p q r e = absurd (omega (arith, ap (λ o. o .number) e))
+    go false false false p q r e =
+        let same : mapped m t ≡ answer = ap (λ o. o .totals) e in
+        record { allowed = p; in-bounds = q; in-limits = ap (exceed totalLimits) (sym same) ∙ r; is-mapped = sym same }
+
+pub third-call : ThirdCall
+unfolding mapCall
+third-call first second t once one twice two =
+    let k = map-accepted first t once one in
+    let l = map-accepted second once twice two in
+    let same : mapped (composed first second) t ≡ twice = sym (formulas-twice first second t) ∙ ap (mapped second) (sym (k .is-mapped)) ∙ sym (l .is-mapped) in
+    rw (k .in-bounds, same, l .in-limits) refl
+
+pub calls-twice : CallsTwice
+calls-twice first second t once one twice two direct three =
+    map-accepted second once twice two .is-mapped
+    ∙ ap (mapped second) (map-accepted first t once one .is-mapped)
+    ∙ formulas-twice first second t
+    ∙ sym (map-accepted (composed first second) t direct three .is-mapped)
+
+-- ---- outlines
+
+moved-twice : (first second : AffineMap) (ps : List Position) → moved second (moved first ps) ≡ moved (composed first second) ps
+moved-twice first second [] = refl
+moved-twice first second (p ∷ ps) = ap₂ {C = List Position} (λ q qs. q ∷ qs) (sym (composition-means first second (composed first second) .0 refl p)) (moved-twice first second ps)
+
+pub outline-twice : OutlineTwice
+outline-twice first second ps =
+    let places = moved-twice first second ps in
+    record { places = places; totals = ap outlineTotals places ∙ map-law (composed first second) ps }
+
+pub outline-calls-twice : OutlineCallsTwice
+outline-calls-twice zs t taken first second bounds =
+    let places = moved-twice first second (points zs) in
+    record {
+      at-once = λ allowed. sym (moved-only zs t taken (composed first second) allowed (ap anyOutside (sym places) ∙ bounds)) ∙ ap (λ ps. listCall (numbers ps)) (sym places);
+      in-turn = λ allowed allowed′ within.
+          let o = accepts-only-outlines zs t taken in
+          let once = outlineTotals (moved first (points zs)) in
+          let back = points-numbers (moved first (points zs)) in
+          let stays = accepts-points (moved first (points zs)) (moved-outline first (points zs) (all-stay first (points zs) (o .0 .outline) within)) in (
+            once,
+            ap (mapCall first) (o .1) ∙ map-accepts first (points zs) (o .0 .outline) allowed within,
+            sym (moved-only (numbers (moved first (points zs))) once stays second allowed′ (ap (λ ps. anyOutside (moved second ps)) back ∙ bounds)) ∙ ap (λ ps. listCall (numbers (moved second ps))) back,
+          );
+    }

@@ -1,0 +1,99 @@
+-- The laws of shifted centres (document 02, CR 7) used, so that a weaker one is refused here: with every quantifier left free, and at the edge of what each covers.
+use mathlib.Core.Path.{_≡_, refl, _∙_, ap}
+use mathlib.Core.List.{List, [], _∷_}
+use Prim.Native.Nat.{_^_}
+use lib.IntN.{ℤ, pos, negsuc}
+use Rattle.outline.specs.declared.Totals.{Totals}
+use Rattle.outline.specs.EdgeSums.{openEdges, edges, sumOver, over, exceed}
+use Rattle.outline.specs.ListCall.{accepted, refused, points, numbers, outside, anyOutside, wrongLength, listCall}
+use Rattle.outline.specs.MapCall.{moved, disallowed, mapped, mapCall}
+use Rattle.centroid.specs.Centroid.{CentroidOutcome, refused as noCentre, isCentre, firstCentre, centre, signedBy, outlineCentroidCall}
+use Rattle.centroid.proofs.WorkedCentres.{totals}
+use Rattle.moves.specs.ShiftedCentre.{shift, shiftedBy, HasCentre}
+use Rattle.moves.proofs.ShiftedCentre.{totals-shifted, call-shifted, outline-shifted}
+use Rattle.moves.proofs.WorkedMoves.{reversedSquare}
+
+abbrev at : ℤ → ℤ → CentroidOutcome
+at x y = record { number = 0; x = x; y = y }
+
+-- ---- any six totals
+
+any-totals : (t : Totals) (e f : ℤ) → HasCentre t → HasCentre (mapped (shift e f) t) → outlineCentroidCall (mapped (shift e f) t) ≡ shiftedBy e f (outlineCentroidCall t)
+any-totals t e f before after = totals-shifted t e f before after
+
+-- A2 below 0: the centre is at (1, 1), and one decimetre west at (0, 1).
+backwards-before : outlineCentroidCall reversedSquare ≡ at (pos 1) (pos 1)
+unfolding isCentre firstCentre centre signedBy outlineCentroidCall over exceed
+backwards-before = refl
+
+backwards-after : HasCentre (mapped (shift (negsuc 0) (pos 0)) reversedSquare)
+unfolding outlineCentroidCall over exceed
+backwards-after = refl
+
+backwards-shifted : outlineCentroidCall (mapped (shift (negsuc 0) (pos 0)) reversedSquare) ≡ at (pos 0) (pos 1)
+backwards-shifted = totals-shifted reversedSquare (negsuc 0) (pos 0) (ap (λ c. c .number) backwards-before) backwards-after ∙ ap (shiftedBy (negsuc 0) (pos 0)) backwards-before
+
+-- Totals past the outline bounds, as a sheet may have, and a shift that 3 refuses: 5,000 west.
+abbrev largeSheet : Totals
+largeSheet = totals (pos 1_000_000_000) (pos (10 ^ 14)) (pos 0) (pos (10 ^ 18)) (pos 0) (pos 0)
+
+large-before : HasCentre largeSheet
+unfolding outlineCentroidCall over exceed
+large-before = refl
+
+large-after : HasCentre (mapped (shift (negsuc 4999) (pos 0)) largeSheet)
+unfolding outlineCentroidCall over exceed
+large-after = refl
+
+large-shifted : outlineCentroidCall (mapped (shift (negsuc 4999) (pos 0)) largeSheet) ≡ shiftedBy (negsuc 4999) (pos 0) (outlineCentroidCall largeSheet)
+large-shifted = totals-shifted largeSheet (negsuc 4999) (pos 0) large-before large-after
+
+-- ---- the map call
+
+any-call : (t : Totals) (e f : ℤ) (after : Totals) → mapCall (shift e f) t ≡ accepted after → outlineCentroidCall after ≡ shiftedBy e f (outlineCentroidCall t)
+any-call t e f after h = call-shifted t e f after h
+
+-- The figure eight has no centre, wherever the call shifts it.
+abbrev figureEight : Totals
+figureEight = totals (pos 0) (negsuc 7) (pos 0) (negsuc 31) (negsuc 31) (pos 0)
+
+eight-refused : outlineCentroidCall figureEight ≡ noCentre 27
+unfolding outlineCentroidCall over exceed
+eight-refused = refl
+
+eight-shifted : (e f : ℤ) (after : Totals) → mapCall (shift e f) figureEight ≡ accepted after → outlineCentroidCall after ≡ noCentre 27
+eight-shifted e f after h = call-shifted figureEight e f after h ∙ ap (shiftedBy e f) eight-refused
+
+-- ---- outlines
+
+any-outline : (zs : List ℤ) (t : Totals) → listCall zs ≡ accepted t → (e f : ℤ) (after : Totals) → listCall (numbers (moved (shift e f) (points zs))) ≡ accepted after → outlineCentroidCall after ≡ shiftedBy e f (outlineCentroidCall t)
+any-outline zs t taken e f after h = outline-shifted zs t taken e f after h
+
+-- A square at the western limit, shifted to the eastern one: by 3,999, which no map may.
+abbrev western : List ℤ
+western = negsuc 1999 ∷ pos 0 ∷ negsuc 1998 ∷ pos 0 ∷ negsuc 1998 ∷ pos 1 ∷ negsuc 1999 ∷ pos 1 ∷ []
+
+abbrev westernTotals : Totals
+westernTotals = totals (pos 2) (negsuc 11996) (pos 3) (pos 47_976_004) (negsuc 23993) (pos 4)
+
+abbrev easternTotals : Totals
+easternTotals = totals (pos 2) (pos 11_997) (pos 3) (pos 47_976_004) (pos 23_994) (pos 4)
+
+western-taken : listCall western ≡ accepted westernTotals
+unfolding openEdges edges sumOver over points outside anyOutside wrongLength listCall
+western-taken = refl
+
+eastern-taken : listCall (numbers (moved (shift (pos 3999) (pos 0)) (points western))) ≡ accepted easternTotals
+unfolding openEdges edges sumOver over points numbers outside anyOutside wrongLength listCall
+eastern-taken = refl
+
+no-map-may : mapCall (shift (pos 3999) (pos 0)) westernTotals ≡ refused 3
+unfolding mapCall disallowed over
+no-map-may = refl
+
+western-centre : outlineCentroidCall westernTotals ≡ at (negsuc 1998) (pos 1)
+unfolding isCentre firstCentre centre signedBy outlineCentroidCall over exceed
+western-centre = refl
+
+eastern-centre : outlineCentroidCall easternTotals ≡ at (pos 2000) (pos 1)
+eastern-centre = outline-shifted western westernTotals western-taken (pos 3999) (pos 0) easternTotals eastern-taken ∙ ap (shiftedBy (pos 3999) (pos 0)) western-centre
