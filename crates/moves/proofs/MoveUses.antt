@@ -12,7 +12,6 @@ use Rattle.outline.specs.ListCall.{accepted, refused, points, numbers, outside,
 use Rattle.outline.specs.MapCall.{movePoint, moved, disallowed, mapped, mapCall}
 use Rattle.centroid.proofs.WorkedCentres.{totals}
 use Rattle.moves.specs.Composition.{composed}
-use Rattle.moves.specs.MovedTwice.{OutlineCalls}
 use Rattle.moves.specs.ShiftedCentre.{shift}
 use Rattle.moves.proofs.Composition.{composition-means, formulas-twice}
 use Rattle.moves.proofs.MovedTwice.{calls-twice, third-call, outline-twice, outline-calls-twice}
@@ -63,8 +62,11 @@ turned-rectangle direct three = calls-twice threeEast quarterTurn rectangle shif
 any-points : (first second : AffineMap) (ps : List Position) → (moved second (moved first ps) ≡ moved (composed first second) ps) × (outlineTotals (moved second (moved first ps)) ≡ mapped (composed first second) (outlineTotals ps))
 any-points first second ps = let k = outline-twice first second ps in (k .places, k .totals)
 
-any-outline : (zs : List ℤ) (t : Totals) → listCall zs ≡ accepted t → (first second : AffineMap) → anyOutside (moved second (moved first (points zs))) ≡ false → OutlineCalls first second zs t
-any-outline zs t taken first second bounds = outline-calls-twice zs t taken first second bounds
+any-outline : (zs : List ℤ) (t : Totals) → listCall zs ≡ accepted t → (first second : AffineMap) → anyOutside (moved second (moved first (points zs))) ≡ false → disallowed (composed first second) ≡ false → mapCall (composed first second) t ≡ listCall (numbers (moved second (moved first (points zs))))
+any-outline zs t taken first second bounds allowed = outline-calls-twice zs t taken first second bounds .at-once allowed
+
+any-outline-in-turn : (zs : List ℤ) (t : Totals) → listCall zs ≡ accepted t → (first second : AffineMap) → anyOutside (moved second (moved first (points zs))) ≡ false → disallowed first ≡ false → disallowed second ≡ false → anyOutside (moved first (points zs)) ≡ false → (once : Totals) × (mapCall first t ≡ accepted once) × (mapCall second once ≡ listCall (numbers (moved second (moved first (points zs)))))
+any-outline-in-turn zs t taken first second bounds one two within = outline-calls-twice zs t taken first second bounds .in-turn one two within
 
 -- The way may lead through where 1 refuses: (2, 0) goes to (2,002, 0), and back.
 abbrev rectangleNumbers : List ℤ

@@ -38,20 +38,23 @@ map-accepted m t answer e = go (disallowed m) (exceed outlineBounds t) (exceed t
         let same : mapped m t ≡ answer = ap (λ o. o .totals) e in
         record { allowed = p; in-bounds = q; in-limits = ap (exceed totalLimits) (sym same) ∙ r; is-mapped = sym same }
 
-pub third-call : ThirdCall
+-- Two calls that are not refused, one after the other, answer the formulas of the composition.
+in-turn : {first second : AffineMap} {t once twice : Totals} → MapAccepted first t once → MapAccepted second once twice → twice ≡ mapped (composed first second) t
+in-turn {first} {second} {t} one two = two .is-mapped ∙ ap (mapped second) (one .is-mapped) ∙ formulas-twice first second t
+
+-- What 4 and 5 do not refuse, 3 alone may.
+unless-3 : (m : AffineMap) (t answer : Totals) → exceed outlineBounds t ≡ false → answer ≡ mapped m t → exceed totalLimits answer ≡ false → mapCall m t ≡ cond (disallowed m) (refused 3) (accepted answer)
 unfolding mapCall
+unless-3 m t answer b e l = rw (b, ← e, l) refl
+
+pub third-call : ThirdCall
 third-call first second t once one twice two =
     let k = map-accepted first t once one in
     let l = map-accepted second once twice two in
-    let same : mapped (composed first second) t ≡ twice = sym (formulas-twice first second t) ∙ ap (mapped second) (sym (k .is-mapped)) ∙ sym (l .is-mapped) in
-    rw (k .in-bounds, same, l .in-limits) refl
+    unless-3 (composed first second) t twice (k .in-bounds) (in-turn k l) (l .in-limits)
 
 pub calls-twice : CallsTwice
-calls-twice first second t once one twice two direct three =
-    map-accepted second once twice two .is-mapped
-    ∙ ap (mapped second) (map-accepted first t once one .is-mapped)
-    ∙ formulas-twice first second t
-    ∙ sym (map-accepted (composed first second) t direct three .is-mapped)
+calls-twice first second t once one twice two direct three = in-turn (map-accepted first t once one) (map-accepted second once twice two) ∙ sym (map-accepted (composed first second) t direct three .is-mapped)
 
 -- ---- outlines
 

@@ -1,14 +1,15 @@
 -- Document 02, CR 7: a shift moves a centre by exactly that shift. It leaves D and adds to N a multiple of D, so the rounded quotient moves by that multiple.
 use mathlib.Core.Path.{_≡_, refl, sym, _∙_, ap}
 use mathlib.Core.Bool.{Bool, true, false, cond}
-use mathlib.Core.List.{[], _∷_}
+use mathlib.Core.List.{List, [], _∷_}
 use lib.Dec.{eqb}
 use lib.IntN.{ℤ, pos, negℤ, natAbs, _+ℤ_, _*ℤ_}
 use lib.Signed.{ltZ}
 use Rattle.integers.proofs.Ring.{ring, quote}
 use Rattle.outline.specs.declared.Totals.{Totals}
+use Rattle.outline.specs.declared.AffineMap.{AffineMap}
 use Rattle.outline.specs.EdgeSums.{outlineTotals, exceed, outlineBounds}
-use Rattle.outline.specs.ListCall.{points, numbers}
+use Rattle.outline.specs.ListCall.{accepted, points, numbers, listCall}
 use Rattle.outline.specs.MapCall.{moved, mapped, totalLimits}
 use Rattle.outline.proofs.IndexLaws.{points-numbers}
 use Rattle.outline.proofs.Limits.{accepts-only-outlines, accepted-within, exceed-fit, fit-exceed, limits-fit}
@@ -38,14 +39,17 @@ one-coordinate a2 m e a2′ m′ k k′ p q before after =
 -- ---- any six totals
 
 module _ (t : Totals) (e f : ℤ) where
+  abbrev ρ : List ℤ
+  ρ = t .a2 ∷ t .x6 ∷ t .y6 ∷ e ∷ f ∷ []
+
   same-area : mapped (shift e f) t .a2 ≡ t .a2
-  same-area = ring (t .a2 ∷ []) (search quote depth 20) (search quote depth 20) tt
+  same-area = ring ρ (search quote depth 20) (search quote depth 20) tt
 
   moved-east : mapped (shift e f) t .x6 ≡ t .x6 +ℤ pos 3 *ℤ e *ℤ t .a2
-  moved-east = ring (t .a2 ∷ t .x6 ∷ t .y6 ∷ e ∷ []) (search quote depth 20) (search quote depth 20) tt
+  moved-east = ring ρ (search quote depth 20) (search quote depth 20) tt
 
   moved-north : mapped (shift e f) t .y6 ≡ t .y6 +ℤ pos 3 *ℤ f *ℤ t .a2
-  moved-north = ring (t .a2 ∷ t .x6 ∷ t .y6 ∷ f ∷ []) (search quote depth 20) (search quote depth 20) tt
+  moved-north = ring ρ (search quote depth 20) (search quote depth 20) tt
 
   -- A centre that there is, shifted.
   at-centre : (c : CentroidOutcome) → c .number ≡ 0 → shiftedBy e f c ≡ record { number = 0; x = c .x +ℤ decimetre *ℤ e; y = c .y +ℤ decimetre *ℤ f }
@@ -90,12 +94,16 @@ call-shifted t e f after h =
     let k = map-accepted (shift e f) t after h in
     ap outlineCentroidCall (k .is-mapped) ∙ within-limits t e f (limits-of-11 t (k .in-bounds)) (ap (exceed totalLimits) (sym (k .is-mapped)) ∙ k .in-limits)
 
+-- What the list call answers for moved points are the map's formulas of what it answers for the points.
+list-moved : (m : AffineMap) (zs : List ℤ) (t after : Totals) → listCall zs ≡ accepted t → listCall (numbers (moved m (points zs))) ≡ accepted after → after ≡ mapped m t
+list-moved m zs t after taken h =
+    accepts-only-outlines (numbers (moved m (points zs))) after h .1
+    ∙ ap outlineTotals (points-numbers (moved m (points zs)))
+    ∙ map-law m (points zs)
+    ∙ ap (mapped m) (sym (accepts-only-outlines zs t taken .1))
+
 pub outline-shifted : OutlineShifted
 outline-shifted zs t taken e f after h =
-    let there = numbers (moved (shift e f) (points zs)) in
-    let same : after ≡ mapped (shift e f) t =
-    accepts-only-outlines there after h .1
-    ∙ ap outlineTotals (points-numbers (moved (shift e f) (points zs)))
-    ∙ map-law (shift e f) (points zs)
-    ∙ ap (mapped (shift e f)) (sym (accepts-only-outlines zs t taken .1)) in
-    ap outlineCentroidCall same ∙ within-limits t e f (limits-of-11 t (accepted-within zs t taken)) (ap (exceed totalLimits) (sym same) ∙ limits-of-11 after (accepted-within there after h))
+    let same = list-moved (shift e f) zs t after taken h in
+    ap outlineCentroidCall same
+    ∙ within-limits t e f (limits-of-11 t (accepted-within zs t taken)) (ap (exceed totalLimits) (sym same) ∙ limits-of-11 after (accepted-within (numbers (moved (shift e f) (points zs))) after h))
