@@ -1,4 +1,4 @@
-"""Maps, cuts, starts and directions of document 01, straight from its rules."""
+"""Maps, cuts, starts and directions of document 01, straight from its rules; moving twice as CR 7 of document 02 has it."""
 from typing import NamedTuple
 
 from figures import ACCEPTED, COORDINATE_LIMIT, OUTLINE_BOUNDS, SHEET_BOUNDS, ZERO_TOTALS
@@ -116,3 +116,20 @@ def moved_point(affine, place):
 def moved(affine, piece):
     """Every point of a piece moved."""
     return [moved_point(affine, place) for place in piece]
+
+
+# Moving twice
+
+def shift(east, north):
+    """The map that moves every point by so many decimetres."""
+    return AffineMap(a=1, b=0, g=0, h=1, e=east, f=north)
+
+
+def composed(first, second):
+    """CR 7: the map that moves every point as first and then second do.  The images of (0, 0), (1, 0) and (0, 1) tell it."""
+    def image(place):
+        return moved_point(second, moved_point(first, place))
+    e, f = image((0, 0))
+    u_of_x, v_of_x = image((1, 0))
+    u_of_y, v_of_y = image((0, 1))
+    return AffineMap(a=u_of_x - e, b=u_of_y - e, g=v_of_x - f, h=v_of_y - f, e=e, f=f)

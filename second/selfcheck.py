@@ -1,7 +1,8 @@
 """Checks of this program by itself: the listing and the ✱ rows of document 01,
 corner cases of its rules, and its laws on made-up outlines; those of islands and
 holes are in selfcheck_rings.py, those of cells and masks in selfcheck_cells.py, those of
-two walkers in selfcheck_walkers.py, those of the annex in selfcheck_annex.py.
+two walkers in selfcheck_walkers.py, those of the annex in selfcheck_annex.py, those of
+moving twice in selfcheck_moves.py.
 
 Runnable; prints what fails and exits 1, else prints how many checks passed.
 """
@@ -20,6 +21,8 @@ from moves import AffineMap, Cut
 from moves import after_cuts, map_call, moved, started_at, walked_backwards
 from selfcheck_annex import check_comparison, check_entries, check_run_sums
 from selfcheck_cells import check_mask_corners, check_mask_laws, check_region_corners, check_worked_regions
+from selfcheck_moves import check_formulas, check_move_corners, check_outline_moved_twice, check_shifted_centre
+from selfcheck_moves import check_shifted_outline, check_three_calls, check_worked_moves, check_wrong_compositions
 from selfcheck_rings import check_end_order, check_kinds, check_ring_laws, check_turns, check_worked_rings
 from selfcheck_walkers import check_refused_pair, check_walker_corners, check_walker_laws, check_worked_walks
 from worked import numbers_of, walked
@@ -183,18 +186,27 @@ if __name__ == "__main__":
     check_entries()
     check_run_sums()
     check_comparison()
+    check_worked_moves()
+    check_move_corners()
+    check_wrong_compositions()
     made_up = random.Random(1)
     for _ in range(200):
         reach = made_up.choice([2, 30, 500, 2000])
         outline = random_points(made_up, reach, 3, 12)
         check_demand_3(made_up, outline)
         check_ring_laws(outline)
+        check_outline_moved_twice(made_up, outline)
+        check_shifted_outline(made_up, outline)
         check_text_beside_calls(made_up)
     for _ in range(100):
         check_mask_laws(made_up)
     for _ in range(200):
         check_walker_laws(made_up)
         check_refused_pair(made_up)
+    for _ in range(1000):
+        check_formulas(made_up)
+        check_three_calls(made_up)
+        check_shifted_centre(made_up)
     for failure in failed:
         print(failure)
     print(f"{len(passed)} checks passed, {len(failed)} failed")

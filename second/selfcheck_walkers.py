@@ -10,10 +10,10 @@ from figures import OUTLINE_BOUNDS, SHEET_BOUNDS, ZERO_TOTALS
 from figures import Kind, Totals, added, list_call, negated, points_of, turned, within_bounds
 from inputs import FIGURE_EIGHT, RECTANGLE, SQUARE
 from madeup_walks import GREAT_XY24, accepted_pair, random_pair
-from moves import AffineMap, moved, started_at, walked_backwards
+from moves import moved, started_at, walked_backwards
 from walkers import FIRST, SECOND
 from walkers import Comparison, Part, compare_walks, greatest_to_nearest, longer, squared_distance
-from worked import OTHER_WALK, WALKS, numbers_of
+from worked import OTHER_WALK, QUARTER_TURN, WALKS, numbers_of
 
 LESS = (-5, -90, -85, -1535, -2195, -985)
 MORE = (5, 90, 85, 1535, 2195, 985)
@@ -39,7 +39,6 @@ GREAT_DIFFERENCES = ((SQUARE, Totals(16_384_000_000, 0, 0, 131_072_000_000_000_0
                      (GREAT_XY24, Totals(8_192_000_000, 0, 0, 32_768_000_000_000_000, 65_536_000_000_000_000,
                                          65_536_000_000_000_000)))
 TWICE_THE_BOUNDS = added(OUTLINE_BOUNDS, OUTLINE_BOUNDS)
-QUARTER_TURN = AffineMap(a=0, b=-1, g=1, h=0, e=0, f=0)
 
 
 def compared(walk, other):

@@ -1,5 +1,5 @@
-"""The rows of "Plots worked by hand" in document 01 that carry no ✱, then rings, masks, pairs of walks and square sums of
-document 02, one line each.
+"""The rows of "Plots worked by hand" in document 01 that carry no ✱, then rings, masks, pairs of walks, square sums and
+moves of document 02, one line each.
 
 Fields are separated by tabs: label, what was asked, refusal number (0 if accepted), values.
 Reading a square sum refuses nothing, so its row has no refusal number.
@@ -7,13 +7,15 @@ Reading a square sum refuses nothing, so its row has no refusal number.
 from annex import annex
 from cells import Run, region_totals
 from figures import CLOSED_WALK, FRESH_ISLAND, NEW_SHEET, TOTAL_LIMIT, ZERO_TOTALS
-from figures import Kind, Sheet, begin, end, list_call, point
+from figures import Kind, Sheet, begin, centre_of_totals, end, list_call, outline_totals, point
 from inputs import RECTANGLE, SQUARE
 from masks import MOST_WORDS, WORDS_IN_A_ROW, mask_runs, mask_totals
-from moves import AffineMap, map_call
+from moves import AffineMap, composed, map_call, shift
 from walkers import compare_walks
 
 DOUBLING = AffineMap(a=2, b=0, g=0, h=2, e=0, f=0)
+SHIFT = shift(3, -2)
+QUARTER_TURN = AffineMap(a=0, b=-1, g=1, h=0, e=0, f=0)
 
 # Row 0: bits 0 and 63 of word 0, bits 0 and 1 of word 1, bit 63 of word 15.  Row 1: bit 0 of word 0.
 FOUR_RUNS = [1 << 63 | 1, 3, *[0] * 13, 1 << 63, 1, *[0] * 15]
@@ -188,6 +190,29 @@ def annex_rows():
     yield run_row(0, 1_024)
 
 
+def move_row(first, second):
+    """The rectangle moved by one map and then by another.  Asked: both maps.
+    Answered: number and six totals of the second call, which is given what the first answers."""
+    _, once = map_call(first, outline_totals(RECTANGLE))
+    number, twice = map_call(second, once)
+    return ["move", *first, *second, number, *twice]
+
+
+def move_once_row(affine):
+    """The rectangle moved once.  Asked: the map.  Answered: number, six totals; number, x and y of their centre."""
+    number, totals = map_call(affine, outline_totals(RECTANGLE))
+    return ["move-once", *affine, number, *totals, *centre_of_totals(totals)]
+
+
+def move_rows():
+    """The fields of the moves' rows: a shift alone; then a shift and a quarter turn in both orders, and doubling twice, each
+    in two calls and at once by the composition."""
+    yield move_once_row(SHIFT)
+    for first, second in ((SHIFT, QUARTER_TURN), (QUARTER_TURN, SHIFT), (DOUBLING, DOUBLING)):
+        yield move_row(first, second)
+        yield move_once_row(composed(first, second))
+
+
 def rows():
     """The fields of every row."""
     yield limit_row(2000)
@@ -206,6 +231,7 @@ def rows():
     yield from mask_rows()
     yield from compare_rows()
     yield from annex_rows()
+    yield from move_rows()
 
 
 if __name__ == "__main__":

@@ -14,7 +14,7 @@ use Rattle.centroid.proofs.WorkedCentres.{totals}
 use Rattle.moves.specs.Composition.{composed}
 use Rattle.moves.specs.ShiftedCentre.{shift}
 use Rattle.moves.proofs.Composition.{composition-means, formulas-twice}
-use Rattle.moves.proofs.MovedTwice.{calls-twice, third-call, outline-twice, outline-calls-twice}
+use Rattle.moves.proofs.MovedTwice.{calls-twice, composition-call, outline-twice, outline-at-once, outline-in-turn}
 use Rattle.moves.proofs.WorkedMoves.{threeEast, quarterTurn, rectangle, shifted, shiftedThenTurned, rectangle-moved}
 
 -- ---- points and formulas
@@ -50,8 +50,8 @@ flat-first = formulas-twice flat quarterTurn huge
 any-calls : (first second : AffineMap) (t once twice direct : Totals) → mapCall first t ≡ accepted once → mapCall second once ≡ accepted twice → mapCall (composed first second) t ≡ accepted direct → twice ≡ direct
 any-calls first second t once twice direct one two three = calls-twice first second t once one twice two direct three
 
-any-third-call : (first second : AffineMap) (t once twice : Totals) → mapCall first t ≡ accepted once → mapCall second once ≡ accepted twice → mapCall (composed first second) t ≡ cond (disallowed (composed first second)) (refused 3) (accepted twice)
-any-third-call first second t once twice one two = third-call first second t once one twice two
+any-composition-call : (first second : AffineMap) (t once twice : Totals) → mapCall first t ≡ accepted once → mapCall second once ≡ accepted twice → mapCall (composed first second) t ≡ cond (disallowed (composed first second)) (refused 3) (accepted twice)
+any-composition-call first second t once twice one two = composition-call first second t once one twice two
 
 -- The rectangle shifted, then turned: the third call has nothing else to answer.
 turned-rectangle : (direct : Totals) → mapCall (composed threeEast quarterTurn) rectangle ≡ accepted direct → shiftedThenTurned ≡ direct
@@ -62,11 +62,11 @@ turned-rectangle direct three = calls-twice threeEast quarterTurn rectangle shif
 any-points : (first second : AffineMap) (ps : List Position) → (moved second (moved first ps) ≡ moved (composed first second) ps) × (outlineTotals (moved second (moved first ps)) ≡ mapped (composed first second) (outlineTotals ps))
 any-points first second ps = let k = outline-twice first second ps in (k .places, k .totals)
 
-any-outline : (zs : List ℤ) (t : Totals) → listCall zs ≡ accepted t → (first second : AffineMap) → anyOutside (moved second (moved first (points zs))) ≡ false → disallowed (composed first second) ≡ false → mapCall (composed first second) t ≡ listCall (numbers (moved second (moved first (points zs))))
-any-outline zs t taken first second bounds allowed = outline-calls-twice zs t taken first second bounds .at-once allowed
+any-outline : (zs : List ℤ) (t : Totals) → listCall zs ≡ accepted t → (first second : AffineMap) → disallowed (composed first second) ≡ false → anyOutside (moved second (moved first (points zs))) ≡ false → mapCall (composed first second) t ≡ listCall (numbers (moved second (moved first (points zs))))
+any-outline zs t taken first second allowed bounds = outline-at-once zs t taken first second allowed bounds
 
-any-outline-in-turn : (zs : List ℤ) (t : Totals) → listCall zs ≡ accepted t → (first second : AffineMap) → anyOutside (moved second (moved first (points zs))) ≡ false → disallowed first ≡ false → disallowed second ≡ false → anyOutside (moved first (points zs)) ≡ false → (once : Totals) × (mapCall first t ≡ accepted once) × (mapCall second once ≡ listCall (numbers (moved second (moved first (points zs)))))
-any-outline-in-turn zs t taken first second bounds one two within = outline-calls-twice zs t taken first second bounds .in-turn one two within
+any-outline-in-turn : (zs : List ℤ) (t : Totals) → listCall zs ≡ accepted t → (first second : AffineMap) (once twice : Totals) → mapCall first t ≡ accepted once → mapCall second once ≡ accepted twice → anyOutside (moved second (moved first (points zs))) ≡ false → listCall (numbers (moved second (moved first (points zs)))) ≡ accepted twice
+any-outline-in-turn zs t taken first second once twice one two bounds = outline-in-turn zs t taken first second once one twice two bounds
 
 -- The way may lead through where 1 refuses: (2, 0) goes to (2,002, 0), and back.
 abbrev rectangleNumbers : List ℤ
@@ -87,4 +87,4 @@ unfolding over points outside anyOutside disallowed
 there-and-back = (refl, refl, refl)
 
 out-and-in : mapCall (composed farEast farWest) rectangle ≡ listCall (numbers (moved farWest (moved farEast (points rectangleNumbers))))
-out-and-in = outline-calls-twice rectangleNumbers rectangle rectangle-taken farEast farWest (there-and-back .1) .at-once (there-and-back .2)
+out-and-in = outline-at-once rectangleNumbers rectangle rectangle-taken farEast farWest (there-and-back .2) (there-and-back .1)

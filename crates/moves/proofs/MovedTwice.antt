@@ -1,5 +1,5 @@
 -- Document 02, CR 7: the map call and outlines, moved twice and moved once by the composition.
-use mathlib.Core.Path.{_≡_, refl, sym, _∙_, ap, ap₂}
+use mathlib.Core.Path.{_≡_, refl, sym, _∙_, ap, ap₂, subst}
 use mathlib.Core.Bool.{Bool, true, false, cond}
 use mathlib.Core.List.{List, [], _∷_}
 use native.Mathlib.Omega.{arith}
@@ -10,11 +10,11 @@ use Rattle.outline.specs.EdgeSums.{exceed, outlineTotals, outlineBounds}
 use Rattle.outline.specs.ListCall.{accepted, refused, points, numbers, anyOutside, listCall}
 use Rattle.outline.specs.MapCall.{moved, disallowed, mapped, totalLimits, mapCall}
 use Rattle.outline.proofs.IndexLaws.{points-numbers}
-use Rattle.outline.proofs.Limits.{accepts-only-outlines, accepts-points}
-use Rattle.outline.proofs.MapLaw.{map-law, all-stay, moved-outline, map-accepts}
+use Rattle.outline.proofs.Limits.{Outline, accepts-only-outlines, accepts-points}
+use Rattle.outline.proofs.MapLaw.{map-law, all-stay, moved-outline}
 use Rattle.outline.proofs.PiecesLaws.{moved-only}
 use Rattle.moves.specs.Composition.{composed}
-use Rattle.moves.specs.MovedTwice.{CallsTwice, ThirdCall, OutlineTwice, OutlineCallsTwice}
+use Rattle.moves.specs.MovedTwice.{CallsTwice, CompositionCall, OutlineTwice, OutlineAtOnce, OutlineInTurn}
 use Rattle.moves.proofs.Composition.{composition-means, formulas-twice}
 
 -- ---- the map call
@@ -47,8 +47,8 @@ unless-3 : (m : AffineMap) (t answer : Totals) → exceed outlineBounds t ≡ fa
 unfolding mapCall
 unless-3 m t answer b e l = rw (b, ← e, l) refl
 
-pub third-call : ThirdCall
-third-call first second t once one twice two =
+pub composition-call : CompositionCall
+composition-call first second t once one twice two =
     let k = map-accepted first t once one in
     let l = map-accepted second once twice two in
     unless-3 (composed first second) t twice (k .in-bounds) (in-turn k l) (l .in-limits)
@@ -67,18 +67,19 @@ outline-twice first second ps =
     let places = moved-twice first second ps in
     record { places = places; totals = ap outlineTotals places ∙ map-law (composed first second) ps }
 
-pub outline-calls-twice : OutlineCallsTwice
-outline-calls-twice zs t taken first second bounds =
+pub outline-at-once : OutlineAtOnce
+outline-at-once zs t taken first second allowed bounds =
     let places = moved-twice first second (points zs) in
-    record {
-      at-once = λ allowed. sym (moved-only zs t taken (composed first second) allowed (ap anyOutside (sym places) ∙ bounds)) ∙ ap (λ ps. listCall (numbers ps)) (sym places);
-      in-turn = λ allowed allowed′ within.
-          let o = accepts-only-outlines zs t taken in
-          let once = outlineTotals (moved first (points zs)) in
-          let back = points-numbers (moved first (points zs)) in
-          let stays = accepts-points (moved first (points zs)) (moved-outline first (points zs) (all-stay first (points zs) (o .0 .outline) within)) in (
-            once,
-            ap (mapCall first) (o .1) ∙ map-accepts first (points zs) (o .0 .outline) allowed within,
-            sym (moved-only (numbers (moved first (points zs))) once stays second allowed′ (ap (λ ps. anyOutside (moved second ps)) back ∙ bounds)) ∙ ap (λ ps. listCall (numbers (moved second ps))) back,
-          );
-    }
+    sym (moved-only zs t taken (composed first second) allowed (ap anyOutside (sym places) ∙ bounds)) ∙ ap (λ ps. listCall (numbers ps)) (sym places)
+
+-- Points moved to where 1 refuses none are an outline again.
+moved-outline-twice : (first second : AffineMap) (ps : List Position) → Outline ps → anyOutside (moved second (moved first ps)) ≡ false → Outline (moved second (moved first ps))
+moved-outline-twice first second ps o bounds =
+    let places = moved-twice first second ps in
+    subst Outline (sym places) (moved-outline (composed first second) ps (all-stay (composed first second) ps o (ap anyOutside (sym places) ∙ bounds)))
+
+pub outline-in-turn : OutlineInTurn
+outline-in-turn zs t taken first second once one twice two bounds =
+    let o = accepts-only-outlines zs t taken in
+    accepts-points (moved second (moved first (points zs))) (moved-outline-twice first second (points zs) (o .0 .outline) bounds)
+    ∙ ap accepted (outline-twice first second (points zs) .totals ∙ ap (mapped (composed first second)) (sym (o .1)) ∙ sym (in-turn (map-accepted first t once one) (map-accepted second once twice two)))

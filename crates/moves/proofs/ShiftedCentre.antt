@@ -17,24 +17,24 @@ use Rattle.outline.proofs.MapLaw.{map-law}
 use Rattle.centroid.specs.Centroid.{CentroidOutcome, refused, signedBy, outlineCentroidCall}
 use Rattle.centroid.proofs.CentreLaw.{centre-moves}
 use Rattle.centroid.proofs.CallLaws.{IsTheCentre, outline-centre}
-use Rattle.moves.specs.ShiftedCentre.{shift, decimetre, shiftedBy, HasCentre, TotalsShifted, CallShifted, OutlineShifted}
+use Rattle.moves.specs.ShiftedCentre.{shift, unitsPerDecimetre, shiftedBy, HasCentre, TotalsShifted, CallShifted, OutlineShifted}
 use Rattle.moves.proofs.MovedTwice.{map-accepted}
 
 -- ---- one coordinate
 
 -- N of a first moment m, after a shift by e: m has become m + 3×e×A2.
-shifted-moment : (a2 m e : ℤ) → signedBy a2 (m +ℤ pos 3 *ℤ e *ℤ a2) ≡ signedBy a2 m +ℤ (decimetre *ℤ e) *ℤ signedBy a2 (pos 3 *ℤ a2)
+shifted-moment : (a2 m e : ℤ) → signedBy a2 (m +ℤ pos 3 *ℤ e *ℤ a2) ≡ signedBy a2 m +ℤ (unitsPerDecimetre *ℤ e) *ℤ signedBy a2 (pos 3 *ℤ a2)
 unfolding signedBy
 shifted-moment a2 m e = go (ltZ a2 (pos 0))
   where
-    go : (b : Bool) → cond b (negℤ (m +ℤ pos 3 *ℤ e *ℤ a2)) (m +ℤ pos 3 *ℤ e *ℤ a2) ≡ cond b (negℤ m) m +ℤ (decimetre *ℤ e) *ℤ cond b (negℤ (pos 3 *ℤ a2)) (pos 3 *ℤ a2)
+    go : (b : Bool) → cond b (negℤ (m +ℤ pos 3 *ℤ e *ℤ a2)) (m +ℤ pos 3 *ℤ e *ℤ a2) ≡ cond b (negℤ m) m +ℤ (unitsPerDecimetre *ℤ e) *ℤ cond b (negℤ (pos 3 *ℤ a2)) (pos 3 *ℤ a2)
     go true = ring (a2 ∷ m ∷ e ∷ []) (search quote depth 20) (search quote depth 20) tt
     go false = ring (a2 ∷ m ∷ e ∷ []) (search quote depth 20) (search quote depth 20) tt
 
 -- The centre before and the one after, where the first moment and the area are what a shift by e leaves.
-one-coordinate : (a2 m e a2′ m′ k k′ : ℤ) → a2′ ≡ a2 → m′ ≡ m +ℤ pos 3 *ℤ e *ℤ a2 → IsTheCentre (signedBy a2 m) (signedBy a2 (pos 3 *ℤ a2)) k → IsTheCentre (signedBy a2′ m′) (signedBy a2′ (pos 3 *ℤ a2′)) k′ → k′ ≡ k +ℤ decimetre *ℤ e
+one-coordinate : (a2 m e a2′ m′ k k′ : ℤ) → a2′ ≡ a2 → m′ ≡ m +ℤ pos 3 *ℤ e *ℤ a2 → IsTheCentre (signedBy a2 m) (signedBy a2 (pos 3 *ℤ a2)) k → IsTheCentre (signedBy a2′ m′) (signedBy a2′ (pos 3 *ℤ a2′)) k′ → k′ ≡ k +ℤ unitsPerDecimetre *ℤ e
 one-coordinate a2 m e a2′ m′ k k′ p q before after =
-    sym (after .only (k +ℤ decimetre *ℤ e) (rw (p, q, shifted-moment a2 m e) (centre-moves (signedBy a2 m) (signedBy a2 (pos 3 *ℤ a2)) k (decimetre *ℤ e) (before .holds))))
+    sym (after .only (k +ℤ unitsPerDecimetre *ℤ e) (rw (p, q, shifted-moment a2 m e) (centre-moves (signedBy a2 m) (signedBy a2 (pos 3 *ℤ a2)) k (unitsPerDecimetre *ℤ e) (before .holds))))
 
 -- ---- any six totals
 
@@ -52,7 +52,7 @@ module _ (t : Totals) (e f : ℤ) where
   moved-north = ring ρ (search quote depth 20) (search quote depth 20) tt
 
   -- A centre that there is, shifted.
-  at-centre : (c : CentroidOutcome) → c .number ≡ 0 → shiftedBy e f c ≡ record { number = 0; x = c .x +ℤ decimetre *ℤ e; y = c .y +ℤ decimetre *ℤ f }
+  at-centre : (c : CentroidOutcome) → c .number ≡ 0 → shiftedBy e f c ≡ record { number = 0; x = c .x +ℤ unitsPerDecimetre *ℤ e; y = c .y +ℤ unitsPerDecimetre *ℤ f }
   at-centre c h = rw h refl
 
 pub totals-shifted : TotalsShifted

@@ -1,8 +1,8 @@
--- Document 02, CR 7: the composition of two maps. A map is any six whole numbers here; what 3 allows is another question.
+-- Document 02, CR 7: the composition of two maps. The six numbers of a map may be any whole numbers here.
 use lib.IntN.{_+ℤ_, _*ℤ_}
 use Rattle.outline.specs.declared.AffineMap.{AffineMap}
 
--- First the one map, then the other: the second's u and v with the first's u and v put in for x and y. So the second turns the first's shift too.
+-- First the one map, then the other: the second's u and v, with the first's u and v put in for x and y. So the second's coefficients act on the first's shifts too.
 abbrev pub composed : AffineMap → AffineMap → AffineMap
 composed first second =
     record {

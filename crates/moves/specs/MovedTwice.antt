@@ -21,7 +21,7 @@ CompositionMeans =
     (first second : AffineMap)
     -- and every map:
     (m : AffineMap)
-    -- it is their composition exactly where it moves every point as the first and then the second do.
+    -- it is their composition exactly if it moves every point as the first and then the second do.
     → (m ≡ composed first second) ↔ ((p : Position) → movePoint m p ≡ movePoint second (movePoint first p))
 
 -- ---- six totals
@@ -47,14 +47,15 @@ CallsTwice =
     -- nor the call with the second on what the first answered,
     → (twice : Totals)
     → mapCall second once ≡ accepted twice
-    -- nor the call with the composition, so that its coefficients are allowed:
+    -- nor the call with the composition, which is then allowed:
     → (direct : Totals)
     → mapCall (composed first second) t ≡ accepted direct
     -- both ways answer the same.
     → twice ≡ direct
 
-abbrev pub ThirdCall : Type 0
-ThirdCall =
+-- What is left of these conditions where the first two calls are not refused.
+abbrev pub CompositionCall : Type 0
+CompositionCall =
     -- For every two maps
     (first second : AffineMap)
     -- and any six totals,
@@ -64,7 +65,7 @@ ThirdCall =
     → mapCall first t ≡ accepted once
     → (twice : Totals)
     → mapCall second once ≡ accepted twice
-    -- the call with the composition answers the same, or its coefficients are not allowed. No other refusal is left.
+    -- the call with the composition answers the same, or is refused with 3: a coefficient or a shift is over its limit. 4 and 5 cannot come.
     → mapCall (composed first second) t ≡ cond (disallowed (composed first second)) (refused 3) (accepted twice)
 
 -- ---- outlines
@@ -85,15 +86,8 @@ OutlineTwice =
     -- the claim holds.
     → PointsTwice first second ps
 
--- What is claimed of an outline with the totals t, moved by one map and then by another, where no point ends where 1 refuses it.
-pub record OutlineCalls (first second : AffineMap) (zs : List ℤ) (t : Totals) : Type 0 where
-  -- If the composition is allowed, one call with it answers what the list call answers for the points moved twice.
-  pub at-once : disallowed (composed first second) ≡ false → mapCall (composed first second) t ≡ listCall (numbers (moved second (moved first (points zs))))
-  -- If both maps are allowed, and no point goes through where 1 refuses it, two calls answer it too, the second given what the first answers.
-  pub in-turn : disallowed first ≡ false → disallowed second ≡ false → anyOutside (moved first (points zs)) ≡ false → (once : Totals) × (mapCall first t ≡ accepted once) × (mapCall second once ≡ listCall (numbers (moved second (moved first (points zs)))))
-
-abbrev pub OutlineCallsTwice : Type 0
-OutlineCallsTwice =
+abbrev pub OutlineAtOnce : Type 0
+OutlineAtOnce =
     -- For every list of numbers
     (zs : List ℤ)
     -- and the six totals
@@ -102,7 +96,30 @@ OutlineCallsTwice =
     → listCall zs ≡ accepted t
     -- for every two maps
     → (first second : AffineMap)
-    -- that together move no point to where 1 refuses it:
+    -- whose composition 3 does not refuse,
+    → disallowed (composed first second) ≡ false
+    -- and that together move no point to where 1 refuses it:
     → anyOutside (moved second (moved first (points zs))) ≡ false
-    -- the claim holds.
-    → OutlineCalls first second zs t
+    -- the call with the composition answers what the list call answers for the points moved twice.
+    → mapCall (composed first second) t ≡ listCall (numbers (moved second (moved first (points zs))))
+
+abbrev pub OutlineInTurn : Type 0
+OutlineInTurn =
+    -- For every list of numbers
+    (zs : List ℤ)
+    -- and the six totals
+    (t : Totals)
+    -- with which the list call accepts it;
+    → listCall zs ≡ accepted t
+    -- for every two maps
+    → (first second : AffineMap)
+    -- where the call with the first is not refused,
+    → (once : Totals)
+    → mapCall first t ≡ accepted once
+    -- nor the call with the second on what the first answered,
+    → (twice : Totals)
+    → mapCall second once ≡ accepted twice
+    -- and that together move no point to where 1 refuses it, wherever the first alone does:
+    → anyOutside (moved second (moved first (points zs))) ≡ false
+    -- the list call answers the same for the points moved twice.
+    → listCall (numbers (moved second (moved first (points zs)))) ≡ accepted twice

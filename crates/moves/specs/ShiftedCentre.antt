@@ -14,13 +14,13 @@ use Rattle.centroid.specs.Centroid.{CentroidOutcome, outlineCentroidCall}
 abbrev pub shift : ℤ → ℤ → AffineMap
 shift e f = record { a = pos 1; b = pos 0; g = pos 0; h = pos 1; e = e; f = f }
 
--- A decimetre in the unit that centres are given in (document 01, "Centre"): they are given in decimetres. The unit stands here alone in these laws.
-abbrev pub decimetre : ℤ
-decimetre = pos 1
+-- How many units of a centre make a decimetre: centres are in decimetres (document 01, "Centre"). If their unit changes, the laws change here alone.
+abbrev pub unitsPerDecimetre : ℤ
+unitsPerDecimetre = pos 1
 
--- A centre moved by e and f decimetres. Where there is none, nothing is moved.
+-- A centre moved by e and f decimetres. A refusal stays as it is.
 abbrev pub shiftedBy : ℤ → ℤ → CentroidOutcome → CentroidOutcome
-shiftedBy e f c = cond (eqb (c .number) 0) (record { number = 0; x = c .x +ℤ decimetre *ℤ e; y = c .y +ℤ decimetre *ℤ f }) c
+shiftedBy e f c = cond (eqb (c .number) 0) (record { number = 0; x = c .x +ℤ unitsPerDecimetre *ℤ e; y = c .y +ℤ unitsPerDecimetre *ℤ f }) c
 
 -- The call for a centre does not refuse these totals.
 abbrev pub HasCentre : Totals → Type 0
@@ -28,7 +28,7 @@ HasCentre t = outlineCentroidCall t .number ≡ 0
 
 abbrev pub TotalsShifted : Type 0
 TotalsShifted =
-    -- For any six totals, with A2 below 0 too: of an outline, a sheet or cells,
+    -- For any six totals, with A2 below 0 too,
     (t : Totals)
     -- and every shift, of any size,
     (e f : ℤ)
@@ -59,7 +59,7 @@ OutlineShifted =
     (t : Totals)
     -- with which the list call accepts it;
     → listCall zs ≡ accepted t
-    -- for every shift, 3 or no 3,
+    -- for every shift, also one too large for 3,
     → (e f : ℤ)
     -- after which the list call accepts the points too:
     → (after : Totals)

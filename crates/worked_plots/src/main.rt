@@ -1,4 +1,4 @@
-// Document 01, "Plots worked by hand": the plots that carry no ✱, and rings, masks, compared walks and square sums of document 02, run through the proved functions. Each
+// Document 01, "Plots worked by hand": the plots that carry no ✱, and rings, masks, compared walks, square sums and moves of document 02, run through the proved functions. Each
 // prints a row: label, what was asked, number of the refusal (0 where accepted) and values, separated by tabs, as second/worked.py prints them too. To read a square sum
 // refuses nothing, so its row has no number. The plots marked ✱ are rows of worked_rows/specs/Rows.antt.
 ghost use Prim.Native.Nat.{_≤_};
@@ -6,6 +6,7 @@ ghost use Prim.Native.Nat.{_≤_};
 mod annex_rows;
 mod compare_rows;
 mod mask_rows;
+mod move_rows;
 mod plots;
 mod ring_rows;
 mod show;
@@ -121,4 +122,5 @@ fn main() {
     // Runs whose sums of x² are taken at the ends of the annex.
     run_row(0, 1);
     run_row(0, 1024);
+    move_rows::move_rows();
 }

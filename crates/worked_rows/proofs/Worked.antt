@@ -14,7 +14,7 @@ use Rattle.cell_ground.specs.CellSums.{sumsOver}
 use Rattle.cell_ground.specs.Ground.{groundOf}
 use Rattle.cells.specs.RunCells.{cellsFrom, cellsOf, allCells}
 use Rattle.cells.specs.RegionCall.{badRun, anyBad, liesAfter, disordered, tooMany, regionCall}
-use Rattle.worked_rows.specs.Rows.{holds, rows, ringRows, walkRows, errorRows}
+use Rattle.worked_rows.specs.Rows.{holds, rows, ringRows, walkRows, moveRows, errorRows}
 
 pub worked : All holds rows
 unfolding openEdges edges sumOver over exceed points numbers outside anyOutside wrongLength listCall disallowed mapCall neighbours canCut cutOnce cutAll isCentre firstCentre centre signedBy outlineCentroidCall cellsFrom cellsOf allCells sumsOver groundOf badRun anyBad disordered tooMany regionCall holds
@@ -29,6 +29,11 @@ ring-rows = (refl, (refl, (refl, (refl, (refl, (refl, (refl, (refl, (refl, (refl
 pub walk-rows : All holds walkRows
 unfolding openEdges edges sumOver over points numbers outside anyOutside wrongLength listCall squaredDistance leastOf greatestOf toNearest squaredHausdorff comparisonNumber figuresCall partOf holds
 walk-rows = (refl, (refl, (refl, (refl, (refl, (refl, (refl, (refl, (refl, (refl, tt))))))))))
+
+-- The moves of document 02, CR 7.
+pub move-rows : All holds moveRows
+unfolding openEdges edges sumOver over exceed points numbers outside anyOutside wrongLength listCall disallowed mapCall isCentre firstCentre centre signedBy outlineCentroidCall holds
+move-rows = (refl, (refl, (refl, (refl, (refl, (refl, (refl, (refl, (refl, (refl, tt))))))))))
 
 -- The rows for "Errors a surveyor would not notice".
 pub error-rows : All holds errorRows

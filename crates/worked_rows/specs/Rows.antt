@@ -1,5 +1,5 @@
 -- Document 01, "Plots worked by hand": the plots marked ✱ as one list of rows, each what is asked and the figures that are answered, the run's as document 02,
--- CR 2, has them; the rings of document 02, CR 3, and its two walkers, CR 5; and rows for "Errors a surveyor would not notice".
+-- CR 2, has them; the rings of document 02, CR 3, its two walkers, CR 5, and its moves, CR 7; and rows for "Errors a surveyor would not notice".
 use Prim.Native.Nat.{ℕ}
 use mathlib.Core.Path.{_≡_}
 use mathlib.Core.Bool.{true, false}
@@ -13,13 +13,15 @@ use Rattle.outline.specs.declared.Walk.{Walk}
 use Rattle.outline.specs.declared.Sheet.{Sheet}
 use Rattle.outline.specs.EdgeSums.{zeros}
 use Rattle.outline.specs.ListCall.{Outcome, accepted, refused as notAccepted, numbers, listCall}
-use Rattle.outline.specs.MapCall.{mapCall}
+use Rattle.outline.specs.MapCall.{moved, mapCall}
 use Rattle.outline.specs.Pieces.{Piece, Cut, piecesOf, startAt, totalsOf}
 use Rattle.outline.specs.WalkCalls.{closed, sheetOf, newSheet, endCall}
 use Rattle.outline.specs.CallLists.{Ring, after, from, sheetAfter}
 use Rattle.outline.specs.EveryOutline.{ringCalls}
 use Rattle.two_walks.specs.Comparison.{FiguresOutcome, figuresCall, Part, partOf}
 use Rattle.centroid.specs.Centroid.{CentroidOutcome, refused, outlineCentroidCall}
+use Rattle.moves.specs.Composition.{composed}
+use Rattle.moves.specs.ShiftedCentre.{shift}
 use Rattle.cells.specs.declared.Run.{Run}
 use Rattle.cells.specs.RegionCall.{RegionOutcome, regionCall}
 
@@ -32,6 +34,10 @@ pub data Row : Type 0 where
   centre : List Position → CentroidOutcome → Row
   -- The map call on the totals that it answers.
   mapping : AffineMap → List Position → Outcome → Row
+  -- The map call on what it answers with another map before.
+  mappingTwice : AffineMap → AffineMap → List Position → Outcome → Row
+  -- The composition of two maps.
+  composition : AffineMap → AffineMap → AffineMap → Row
   -- One cut of an outline: A2 and X6 of each piece.
   cut : List Position → Cut → List (ℤ × ℤ) → Row
   -- The end of a ring that is walked, on a new sheet: its number, and its totals.
@@ -62,6 +68,8 @@ unfoldable pub holds : Row → Type 0
 holds (list ps answer) = listCall (numbers ps) ≡ answer
 holds (centre ps answer) = outlineCentroidCall (totalsOf ps) ≡ answer
 holds (mapping m ps answer) = mapCall m (totalsOf ps) ≡ answer
+holds (mappingTwice first second ps answer) = mapCall second (mapCall first (totalsOf ps) .totals) ≡ answer
+holds (composition first second m) = composed first second ≡ m
 holds (cut ps c answers) = map areaAndX6 (piecesOf ps (c ∷ [])) ≡ answers
 holds (ring g answer) = endOf g ≡ answer
 holds (sheet gs answer) = sheetAfter newSheet (map walkedRing gs) ≡ answer
@@ -214,6 +222,34 @@ walkRows =
     ∷ part outsideLimits oddLength emptyStart
     ∷ figures oddLength farOutside (notCompared 2)
     ∷ part oddLength farOutside emptyStart
+    ∷ []
+
+-- ---- the moves of document 02, CR 7
+
+-- u = x + 3, v = y − 2.
+abbrev pub threeEast : AffineMap
+threeEast = shift (pos 3) (minus 2)
+
+-- u = −y + e, v = x + f: a quarter turn, then a shift.
+abbrev pub quarterTurn : ℤ → ℤ → AffineMap
+quarterTurn e f = record { a = pos 0; b = minus 1; g = pos 1; h = pos 0; e = e; f = f }
+
+abbrev pub turn : AffineMap
+turn = quarterTurn (pos 0) (pos 0)
+
+-- Shifted, then turned; turned, then shifted: in two calls, and at once by the composition. Then centres after a shift, of the rectangle and of a square walked backwards.
+abbrev pub moveRows : List Row
+moveRows =
+    mapping threeEast rectangle (accepted (totals (pos 80) (pos 1920) (pos 480) (pos 33440) (pos 17280) (pos 3200)))
+    ∷ mappingTwice threeEast turn rectangle (accepted (totals (pos 80) (minus 480) (pos 1920) (pos 3200) (minus 17280) (pos 33440)))
+    ∷ composition threeEast turn (quarterTurn (pos 2) (pos 3))
+    ∷ mapping (quarterTurn (pos 2) (pos 3)) rectangle (accepted (totals (pos 80) (minus 480) (pos 1920) (pos 3200) (minus 17280) (pos 33440)))
+    ∷ mappingTwice turn threeEast rectangle (accepted (totals (pos 80) (minus 240) (pos 720) (pos 1760) (minus 4800) (pos 7040)))
+    ∷ composition turn threeEast (quarterTurn (pos 3) (minus 2))
+    ∷ mapping (quarterTurn (pos 3) (minus 2)) rectangle (accepted (totals (pos 80) (minus 240) (pos 720) (pos 1760) (minus 4800) (pos 7040)))
+    ∷ centre (moved threeEast rectangle) (centreAt (pos 8) (pos 2))
+    ∷ centre (reverse unitSquare) (centreAt (pos 1) (pos 1))
+    ∷ centre (moved (shift (minus 1) (pos 0)) (reverse unitSquare)) (centreAt (pos 0) (pos 1))
     ∷ []
 
 -- ---- rows for the errors that a surveyor would not notice; what each error makes of its plot is in proofs/Errors
