@@ -11,6 +11,7 @@ import moves
 import page_cells
 import page_code
 import page_masks
+import page_moves
 import page_rings
 import page_walks
 import pictures
@@ -20,7 +21,7 @@ from differences import expect
 ROOT = Path(__file__).resolve().parent.parent
 SEED = 7
 MADE_UP = 100
-ALLOWED = re.compile(r"\b(A2|X6|Y6|XX12|XY24|YY12|[Dd]ocument 0[12]|document 000|CR [23]|[Rr]efusal (8|10|22|27|31|32))\b")
+ALLOWED = re.compile(r"\b(A2|X6|Y6|XX12|XY24|YY12|[Dd]ocument 0[12]|document 000|CR [23]|[Rr]efusal (3|4|8|10|22|27|31|32))\b")
 # Of the tables that are recomputed in part: the cells of a row that are read as text.
 AS_TEXT = {"test": slice(1, None), "ground": slice(3, None), "regions": slice(1)}
 
@@ -143,7 +144,7 @@ class Page:
                 table.append([cell.strip() for cell in line.strip("|").split("|")])
                 if not self.lines[number + 1].startswith("|"):
                     self.table(number, table[0], table[1:], now)
-                if table[0] in ("edges", "loops", "trial", "answers", "cells", *page_walks.ROWS):
+                if table[0] in ("edges", "loops", "trial", "answers", "cells", "moves", *page_walks.ROWS):
                     continue
                 if table[0] in AS_TEXT:
                     line = "|".join(table[-1][AS_TEXT[table[0]]])
@@ -226,6 +227,11 @@ class Page:
             expect([row[0] for row in rows[2:]] == list(exact.TOTALS), self.at(number), "other totals")
             expect(by_page == list(moves.mapped_totals(affine, totals)), self.at(number), f"not the map call's formulas: {affine}")
             expect(by_page == [sum(column) for column in zip(*moved)], self.at(number), f"not the moved outline's totals: {affine}")
+
+    def table_moves(self, number, rows, now):
+        """The named outline moved: what the calls answer for it."""
+        expected = page_moves.move_rows(rows[2:], now["of"][0])
+        expect(rows[2:] == expected, self.at(number), f"the moves give {expected}")
 
     def table_edges(self, number, rows, now):
         """Edges of the named line's outline in turn, each with the named terms, and their sums."""
