@@ -91,9 +91,5 @@ no-map-may : mapCall (shift (pos 3999) (pos 0)) westernTotals ≡ refused 3
 unfolding mapCall disallowed over
 no-map-may = refl
 
-western-centre : outlineCentroidCall westernTotals ≡ at (negsuc 1998) (pos 1)
-unfolding isCentre firstCentre centre signedBy outlineCentroidCall over exceed
-western-centre = refl
-
-eastern-centre : outlineCentroidCall easternTotals ≡ at (pos 2000) (pos 1)
-eastern-centre = outline-shifted western westernTotals western-taken (pos 3999) (pos 0) easternTotals eastern-taken ∙ ap (shiftedBy (pos 3999) (pos 0)) western-centre
+eastern-centre : outlineCentroidCall easternTotals ≡ shiftedBy (pos 3999) (pos 0) (outlineCentroidCall westernTotals)
+eastern-centre = outline-shifted western westernTotals western-taken (pos 3999) (pos 0) easternTotals eastern-taken
