@@ -12,10 +12,16 @@ use Rattle.outline.specs.ListCall.{accepted, refused, points, numbers, outside,
 use Rattle.outline.specs.MapCall.{movePoint, moved, disallowed, mapped, mapCall}
 use Rattle.centroid.proofs.WorkedCentres.{totals}
 use Rattle.moves.specs.Composition.{composed}
+use Rattle.moves.specs.MovedTwice.{CompositionMeans, FormulasTwice, CallsTwice, CompositionCall, OutlineTwice, OutlineAtOnce, OutlineInTurn}
 use Rattle.moves.specs.ShiftedCentre.{shift}
 use Rattle.moves.proofs.Composition.{composition-means, formulas-twice}
 use Rattle.moves.proofs.MovedTwice.{calls-twice, composition-call, outline-twice, outline-at-once, outline-in-turn}
 use Rattle.moves.proofs.WorkedMoves.{threeEast, quarterTurn, rectangle, shifted, shiftedThenTurned, rectangle-moved}
+
+-- ---- the theorems are of these statements
+
+moved-twice : CompositionMeans × FormulasTwice × CallsTwice × CompositionCall × OutlineTwice × OutlineAtOnce × OutlineInTurn
+moved-twice = (composition-means, formulas-twice, calls-twice, composition-call, outline-twice, outline-at-once, outline-in-turn)
 
 -- ---- points and formulas
 

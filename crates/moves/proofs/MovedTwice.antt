@@ -1,15 +1,14 @@
 -- Document 02, CR 7: the map call and outlines, moved twice and moved once by the composition.
-use mathlib.Core.Path.{_≡_, refl, sym, _∙_, ap, ap₂, subst}
+use mathlib.Core.Path.{_≡_, refl, sym, _∙_, ap, subst}
 use mathlib.Core.Bool.{Bool, true, false, cond}
-use mathlib.Core.List.{List, [], _∷_}
+use mathlib.Core.List.{List, map, map-map}
 use native.Mathlib.Omega.{arith}
 use Rattle.outline.specs.declared.Position.{Position}
 use Rattle.outline.specs.declared.Totals.{Totals}
 use Rattle.outline.specs.declared.AffineMap.{AffineMap}
 use Rattle.outline.specs.EdgeSums.{exceed, outlineTotals, outlineBounds}
 use Rattle.outline.specs.ListCall.{accepted, refused, points, numbers, anyOutside, listCall}
-use Rattle.outline.specs.MapCall.{moved, disallowed, mapped, totalLimits, mapCall}
-use Rattle.outline.proofs.IndexLaws.{points-numbers}
+use Rattle.outline.specs.MapCall.{movePoint, moved, disallowed, mapped, totalLimits, mapCall}
 use Rattle.outline.proofs.Limits.{Outline, accepts-only-outlines, accepts-points}
 use Rattle.outline.proofs.MapLaw.{map-law, all-stay, moved-outline}
 use Rattle.outline.proofs.PiecesLaws.{moved-only}
@@ -21,22 +20,21 @@ use Rattle.moves.proofs.Composition.{composition-means, formulas-twice}
 
 -- What is known where the map call is not refused.
 pub record MapAccepted (m : AffineMap) (t answer : Totals) : Type 0 where
-  pub allowed : disallowed m ≡ false
   pub in-bounds : exceed outlineBounds t ≡ false
   pub in-limits : exceed totalLimits answer ≡ false
   pub is-mapped : answer ≡ mapped m t
 
 pub map-accepted : (m : AffineMap) (t answer : Totals) → mapCall m t ≡ accepted answer → MapAccepted m t answer
 unfolding mapCall
-map-accepted m t answer e = go (disallowed m) (exceed outlineBounds t) (exceed totalLimits (mapped m t)) refl refl refl e
+map-accepted m t answer e = go (disallowed m) (exceed outlineBounds t) (exceed totalLimits (mapped m t)) refl refl e
   where
-    go : (a b c : Bool) → disallowed m ≡ a → exceed outlineBounds t ≡ b → exceed totalLimits (mapped m t) ≡ c → cond a (refused 3) (cond b (refused 4) (cond c (refused 5) (accepted (mapped m t)))) ≡ accepted answer → MapAccepted m t answer
-    go true b c p q r e = absurd (omega (arith, ap (λ o. o .number) e))
-    go false true c p q r e = absurd (omega (arith, ap (λ o. o .number) e))
-    go false false true p q r e = absurd (omega (arith, ap (λ o. o .number) e))
-    go false false false p q r e =
+    go : (a b c : Bool) → exceed outlineBounds t ≡ b → exceed totalLimits (mapped m t) ≡ c → cond a (refused 3) (cond b (refused 4) (cond c (refused 5) (accepted (mapped m t)))) ≡ accepted answer → MapAccepted m t answer
+    go true b c q r e = absurd (omega (arith, ap (λ o. o .number) e))
+    go false true c q r e = absurd (omega (arith, ap (λ o. o .number) e))
+    go false false true q r e = absurd (omega (arith, ap (λ o. o .number) e))
+    go false false false q r e =
         let same : mapped m t ≡ answer = ap (λ o. o .totals) e in
-        record { allowed = p; in-bounds = q; in-limits = ap (exceed totalLimits) (sym same) ∙ r; is-mapped = sym same }
+        record { in-bounds = q; in-limits = ap (exceed totalLimits) (sym same) ∙ r; is-mapped = sym same }
 
 -- Two calls that are not refused, one after the other, answer the formulas of the composition.
 in-turn : {first second : AffineMap} {t once twice : Totals} → MapAccepted first t once → MapAccepted second once twice → twice ≡ mapped (composed first second) t
@@ -45,7 +43,7 @@ in-turn {first} {second} {t} one two = two .is-mapped ∙ ap (mapped second) (on
 -- What 4 and 5 do not refuse, 3 alone may.
 unless-3 : (m : AffineMap) (t answer : Totals) → exceed outlineBounds t ≡ false → answer ≡ mapped m t → exceed totalLimits answer ≡ false → mapCall m t ≡ cond (disallowed m) (refused 3) (accepted answer)
 unfolding mapCall
-unless-3 m t answer b e l = rw (b, ← e, l) refl
+unless-3 m t answer b e l = rw (b, ← e, l)
 
 pub composition-call : CompositionCall
 composition-call first second t once one twice two =
@@ -59,8 +57,7 @@ calls-twice first second t once one twice two direct three = in-turn (map-accept
 -- ---- outlines
 
 moved-twice : (first second : AffineMap) (ps : List Position) → moved second (moved first ps) ≡ moved (composed first second) ps
-moved-twice first second [] = refl
-moved-twice first second (p ∷ ps) = ap₂ {C = List Position} (λ q qs. q ∷ qs) (sym (composition-means first second (composed first second) .0 refl p)) (moved-twice first second ps)
+moved-twice first second ps = map-map (movePoint second) (movePoint first) ps ∙ (λ i. map (λ p. sym (composition-means first second (composed first second) .0 refl p) i) ps)
 
 pub outline-twice : OutlineTwice
 outline-twice first second ps =

@@ -2,24 +2,30 @@
 use mathlib.Core.Path.{_≡_, refl, _∙_, ap}
 use mathlib.Core.List.{List, [], _∷_}
 use Prim.Native.Nat.{_^_}
-use lib.IntN.{ℤ, pos, negsuc}
+use lib.IntN.{ℤ, pos, negsuc, _+ℤ_, _*ℤ_}
 use Rattle.outline.specs.declared.Totals.{Totals}
 use Rattle.outline.specs.EdgeSums.{openEdges, edges, sumOver, over, exceed}
 use Rattle.outline.specs.ListCall.{accepted, refused, points, numbers, outside, anyOutside, wrongLength, listCall}
 use Rattle.outline.specs.MapCall.{moved, disallowed, mapped, mapCall}
 use Rattle.centroid.specs.Centroid.{CentroidOutcome, refused as noCentre, isCentre, firstCentre, centre, signedBy, outlineCentroidCall}
 use Rattle.centroid.proofs.WorkedCentres.{totals}
-use Rattle.moves.specs.ShiftedCentre.{shift, shiftedBy, HasCentre}
+use Rattle.moves.specs.ShiftedCentre.{shift, unitsPerDecimetre, shiftedBy, HasCentre, TotalsShifted, CallShifted, OutlineShifted}
 use Rattle.moves.proofs.ShiftedCentre.{totals-shifted, call-shifted, outline-shifted}
 use Rattle.moves.proofs.WorkedMoves.{reversedSquare}
 
 abbrev at : ℤ → ℤ → CentroidOutcome
 at x y = record { number = 0; x = x; y = y }
 
+-- ---- the theorems are of these statements
+
+centres-shifted : TotalsShifted × CallShifted × OutlineShifted
+centres-shifted = (totals-shifted, call-shifted, outline-shifted)
+
 -- ---- any six totals
 
-any-totals : (t : Totals) (e f : ℤ) → HasCentre t → HasCentre (mapped (shift e f) t) → outlineCentroidCall (mapped (shift e f) t) ≡ shiftedBy e f (outlineCentroidCall t)
-any-totals t e f before after = totals-shifted t e f before after
+-- With the shift, the refusal and the moved centre written out.
+any-totals : (t : Totals) (e f x y : ℤ) → outlineCentroidCall t ≡ at x y → outlineCentroidCall (mapped (record { a = pos 1; b = pos 0; g = pos 0; h = pos 1; e = e; f = f }) t) .number ≡ 0 → outlineCentroidCall (mapped (record { a = pos 1; b = pos 0; g = pos 0; h = pos 1; e = e; f = f }) t) ≡ at (x +ℤ unitsPerDecimetre *ℤ e) (y +ℤ unitsPerDecimetre *ℤ f)
+any-totals t e f x y before after = totals-shifted t e f (ap (λ c. c .number) before) after ∙ ap (shiftedBy e f) before
 
 -- A2 below 0: the centre is at (1, 1), and one decimetre west at (0, 1).
 backwards-before : outlineCentroidCall reversedSquare ≡ at (pos 1) (pos 1)

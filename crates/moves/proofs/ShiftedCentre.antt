@@ -53,7 +53,7 @@ module _ (t : Totals) (e f : ℤ) where
 
   -- A centre that there is, shifted.
   at-centre : (c : CentroidOutcome) → c .number ≡ 0 → shiftedBy e f c ≡ record { number = 0; x = c .x +ℤ unitsPerDecimetre *ℤ e; y = c .y +ℤ unitsPerDecimetre *ℤ f }
-  at-centre c h = rw h refl
+  at-centre c h = rw h
 
 pub totals-shifted : TotalsShifted
 totals-shifted t e f before after =
@@ -67,11 +67,11 @@ totals-shifted t e f before after =
 
 no-area : (t : Totals) → exceed totalLimits t ≡ false → eqb (natAbs (t .a2)) 0 ≡ true → outlineCentroidCall t ≡ refused 27
 unfolding outlineCentroidCall
-no-area t h a = rw (h, a) refl
+no-area t h a = rw (h, a)
 
 some-area : (t : Totals) → exceed totalLimits t ≡ false → eqb (natAbs (t .a2)) 0 ≡ false → HasCentre t
 unfolding outlineCentroidCall
-some-area t h a = rw (h, a) refl
+some-area t h a = rw (h, a)
 
 within-limits : (t : Totals) (e f : ℤ) → exceed totalLimits t ≡ false → exceed totalLimits (mapped (shift e f) t) ≡ false → outlineCentroidCall (mapped (shift e f) t) ≡ shiftedBy e f (outlineCentroidCall t)
 within-limits t e f before after = go (eqb (natAbs (t .a2)) 0) refl

@@ -110,7 +110,7 @@ needed = record { doubled = refl; doubled-again = refl; multiplied-by-4 = refl; 
 abbrev pub reversedSquare : Totals
 reversedSquare = totals (minus 2) (minus 3) (minus 3) (minus 4) (minus 6) (minus 4)
 
-abbrev pub atLimit : Totals
+abbrev atLimit : Totals
 atLimit = totals (pos 2) (pos 3) (pos 3) (pos (10 ^ 18)) (pos 6) (pos 4)
 
 record Shifted : Type 0 where
@@ -123,10 +123,11 @@ record Shifted : Type 0 where
   limit-before : outlineCentroidCall atLimit ≡ record { number = 0; x = pos 1; y = pos 1 }
   limit-after : outlineCentroidCall (mapped (shift (pos 1) (pos 0)) atLimit) ≡ noCentre 11
   limit-back : mapped (shift (minus 1) (pos 0)) (mapped (shift (pos 1) (pos 0)) atLimit) ≡ atLimit
-  -- What a shift makes of a centre, and of a refusal.
+  -- What a shift makes of a centre, and of a refusal with 27 or 11.
   by-shift : shiftedBy (pos 3) (minus 2) (record { number = 0; x = pos 5; y = pos 4 }) ≡ record { number = 0; x = pos 8; y = pos 2 }
-  no-centre : shiftedBy (pos 3) (minus 2) (noCentre 27) ≡ noCentre 27
+  no-area : shiftedBy (pos 3) (minus 2) (noCentre 27) ≡ noCentre 27
+  past-limits : shiftedBy (pos 3) (minus 2) (noCentre 11) ≡ noCentre 11
 
 worked-shifts : Shifted
 unfolding isCentre firstCentre centre signedBy outlineCentroidCall over exceed
-worked-shifts = record { rectangle-before = refl; rectangle-after = refl; backwards-before = refl; backwards-after = refl; limit-before = refl; limit-after = refl; limit-back = refl; by-shift = refl; no-centre = refl }
+worked-shifts = record { rectangle-before = refl; rectangle-after = refl; backwards-before = refl; backwards-after = refl; limit-before = refl; limit-after = refl; limit-back = refl; by-shift = refl; no-area = refl; past-limits = refl }
