@@ -229,9 +229,10 @@ class Page:
             expect(by_page == [sum(column) for column in zip(*moved)], self.at(number), f"not the moved outline's totals: {affine}")
 
     def table_moves(self, number, rows, now):
-        """The named outline moved: what the calls answer for it."""
-        expected = page_moves.move_rows(rows[2:], now["of"][0])
-        expect(rows[2:] == expected, self.at(number), f"the moves give {expected}")
+        """The named outline moved: its maps, what the map call answers, and what the program prints for the moved points."""
+        for points in page_moves.check(self.at(number), rows, now["of"][0]):
+            given = page_rings.ring_input(points, False)
+            self.output(number, given, text.output(given.encode()).decode())
 
     def table_edges(self, number, rows, now):
         """Edges of the named line's outline in turn, each with the named terms, and their sums."""

@@ -38,7 +38,12 @@ def list_figures(points):
     return exact.outline_figures([points]) | dict(zip(exact.TOTALS, totals)) | centre | {"of": [points], "points": len(points)}
 
 
+def ring_input(points, is_hole):
+    """The lines that walk a ring of this kind."""
+    return "".join(["B\tH\n" if is_hole else "B\n", *(f"P\t{x}\t{y}\n" for x, y in points), "E\n"])
+
+
 def ring_figures(points, is_hole):
     """The figures of the lines that the second program prints for a ring of this kind and nothing else."""
-    given = "".join(["B\tH\n" if is_hole else "B\n", *(f"P\t{x}\t{y}\n" for x, y in points), "E\n"])
+    given = ring_input(points, is_hole)
     return list(printed_figures(given, text.output(given.encode()).decode()).values())

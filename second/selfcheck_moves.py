@@ -50,8 +50,8 @@ def check_move_corners():
 
 
 def check_wrong_compositions():
-    """The other order, and shifts that are added without being turned, give other totals for the rectangle; for two shifts
-    the two agree with the composition."""
+    """The other order, and shifts that are added without being turned, give other totals for the rectangle.  Of two shifts
+    the order does not show."""
     whole = outline_totals(RECTANGLE)
     unturned = composed(SHIFT, QUARTER_TURN)._replace(e=SHIFT.e + QUARTER_TURN.e, f=SHIFT.f + QUARTER_TURN.f)
     for wrong in (composed(QUARTER_TURN, SHIFT), unturned):
@@ -62,9 +62,11 @@ def check_wrong_compositions():
 # The laws
 
 def random_map(rng, coefficient, reach):
-    """Coefficients and shifts of at most these sizes; one in four presses the plane onto a line."""
-    a, b, g, h = (rng.randint(-coefficient, coefficient) for _ in range(4))
-    if rng.random() < 0.25:
+    """Coefficients and shifts of at most these sizes; one in ten presses the plane onto a line."""
+    a = b = g = h = 0
+    while a * h == b * g:
+        a, b, g, h = (rng.randint(-coefficient, coefficient) for _ in range(4))
+    if rng.random() < 0.1:
         g, h = a, b
     return AffineMap(a, b, g, h, rng.randint(-reach, reach), rng.randint(-reach, reach))
 
@@ -101,13 +103,20 @@ def check_three_calls(rng):
 
 
 def check_outline_moved_twice(rng, outline):
-    """The points moved twice, where they are within the limits then, beside the call with the composition."""
-    first, second = (random_map(rng, 2, rng.choice([3, 50, 2000])) for _ in range(2))
+    """The points moved twice, where they are within the limits then, beside the call with the composition, and beside both
+    calls in turn."""
+    first, second = (random_map(rng, rng.choice([1, 2]), rng.choice([3, 50, 500])) for _ in range(2))
     ends = moved(second, moved(first, outline))
     third = composed(first, second)
     check("places", moved(third, outline), ends)
-    if map_is_allowed(third) and all(within_limits(place) for place in ends):
+    if not all(within_limits(place) for place in ends):
+        return
+    if map_is_allowed(third):
         check("outline moved twice", list_call(numbers_of(ends)), map_call(third, outline_totals(outline)))
+    number, once = map_call(first, outline_totals(outline))
+    number, twice = map_call(second, once) if number == ACCEPTED else (number, once)
+    if number == ACCEPTED:
+        check("outline moved in turn", list_call(numbers_of(ends)), (ACCEPTED, twice))
 
 
 def check_shifted_centre(rng):
@@ -128,9 +137,14 @@ def check_shifted_centre(rng):
 
 
 def check_shifted_outline(rng, outline):
-    """An outline and the same shifted, also by more than a map may, where both are within the limits."""
-    reach = rng.choice([9, 500, 4000])
-    east, north = rng.randint(-reach, reach), rng.randint(-reach, reach)
+    """An outline and the same shifted, where both are within the limits; one in three is shifted from limit to limit, by
+    more than a map may."""
+    if rng.random() < 1 / 3:
+        outline = [(x % 9 - 2000, y) for x, y in outline]
+        east, north = 3992, 0
+    else:
+        reach = rng.choice([9, 500])
+        east, north = rng.randint(-reach, reach), rng.randint(-reach, reach)
     there = moved(shift(east, north), outline)
     if all(within_limits(place) for place in there):
         number, x, y = centre_of_totals(outline_totals(outline))

@@ -190,16 +190,17 @@ def annex_rows():
     yield run_row(0, 1_024)
 
 
-def move_row(first, second):
+def move_twice_row(first, second):
     """The rectangle moved by one map and then by another.  Asked: both maps.
     Answered: number and six totals of the second call, which is given what the first answers."""
     _, once = map_call(first, outline_totals(RECTANGLE))
     number, twice = map_call(second, once)
-    return ["move", *first, *second, number, *twice]
+    return ["move-twice", *first, *second, number, *twice]
 
 
 def move_once_row(affine):
-    """The rectangle moved once.  Asked: the map.  Answered: number, six totals; number, x and y of their centre."""
+    """The rectangle moved once.  Asked: the map.  Answered: number, six totals; number, x and y of their centre.
+    The zeros of a refusal have none: 27."""
     number, totals = map_call(affine, outline_totals(RECTANGLE))
     return ["move-once", *affine, number, *totals, *centre_of_totals(totals)]
 
@@ -209,7 +210,7 @@ def move_rows():
     in two calls and at once by the composition."""
     yield move_once_row(SHIFT)
     for first, second in ((SHIFT, QUARTER_TURN), (QUARTER_TURN, SHIFT), (DOUBLING, DOUBLING)):
-        yield move_row(first, second)
+        yield move_twice_row(first, second)
         yield move_once_row(composed(first, second))
 
 

@@ -30,17 +30,17 @@ composed-point first second p = λ i. record { x = east i; y = north i }
 
 -- The three numbers of a row are told by what it makes of (0, 0), (1, 0) and (0, 1).
 record SameRow (a b e a′ b′ e′ : ℤ) : Type 0 where
-  left : a ≡ a′
-  middle : b ≡ b′
-  right : e ≡ e′
+  same-a : a ≡ a′
+  same-b : b ≡ b′
+  same-e : e ≡ e′
 
 same-row : (a b e a′ b′ e′ : ℤ) → ((x y : ℤ) → a *ℤ x +ℤ b *ℤ y +ℤ e ≡ a′ *ℤ x +ℤ b′ *ℤ y +ℤ e′) → SameRow a b e a′ b′ e′
 same-row a b e a′ b′ e′ h =
     let at-origin : e ≡ e′ = given (pos 1) (h (pos 0) (pos 0)) (ring (a ∷ b ∷ e ∷ a′ ∷ b′ ∷ e′ ∷ []) (search quote depth 20) (search quote depth 20) tt) in
     record {
-      left = given (pos 1) (h (pos 1) (pos 0)) (given (negsuc 0) at-origin (ring (a ∷ b ∷ e ∷ a′ ∷ b′ ∷ e′ ∷ []) (search quote depth 20) (search quote depth 20) tt));
-      middle = given (pos 1) (h (pos 0) (pos 1)) (given (negsuc 0) at-origin (ring (a ∷ b ∷ e ∷ a′ ∷ b′ ∷ e′ ∷ []) (search quote depth 20) (search quote depth 20) tt));
-      right = at-origin;
+      same-a = given (pos 1) (h (pos 1) (pos 0)) (given (negsuc 0) at-origin (ring (a ∷ b ∷ e ∷ a′ ∷ b′ ∷ e′ ∷ []) (search quote depth 20) (search quote depth 20) tt));
+      same-b = given (pos 1) (h (pos 0) (pos 1)) (given (negsuc 0) at-origin (ring (a ∷ b ∷ e ∷ a′ ∷ b′ ∷ e′ ∷ []) (search quote depth 20) (search quote depth 20) tt));
+      same-e = at-origin;
     }
 
 -- Two maps that move every point alike are one map.
@@ -48,7 +48,7 @@ same-map : (m n : AffineMap) → ((p : Position) → movePoint m p ≡ movePoint
 same-map m n h =
     let u = same-row (m .a) (m .b) (m .e) (n .a) (n .b) (n .e) (λ x y. ap (λ q. q .x) (h (record { x = x; y = y }))) in
     let v = same-row (m .g) (m .h) (m .f) (n .g) (n .h) (n .f) (λ x y. ap (λ q. q .y) (h (record { x = x; y = y }))) in
-    λ i. record { a = u .left i; b = u .middle i; g = v .left i; h = v .middle i; e = u .right i; f = v .right i }
+    λ i. record { a = u .same-a i; b = u .same-b i; g = v .same-a i; h = v .same-b i; e = u .same-e i; f = v .same-e i }
 
 pub composition-means : CompositionMeans
 composition-means first second m = (λ e p. ap (λ n. movePoint n p) e ∙ composed-point first second p, λ h. same-map m (composed first second) (λ p. h p ∙ sym (composed-point first second p)))

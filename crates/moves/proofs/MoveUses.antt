@@ -3,11 +3,11 @@ use mathlib.Core.Path.{_≡_, refl, sym, _∙_, ap}
 use mathlib.Core.Bool.{true, false, cond}
 use mathlib.Core.List.{List, [], _∷_}
 use Prim.Native.Nat.{_^_}
-use lib.IntN.{ℤ, pos, negsuc}
+use lib.IntN.{ℤ, pos}
 use Rattle.outline.specs.declared.Position.{Position}
 use Rattle.outline.specs.declared.Totals.{Totals}
 use Rattle.outline.specs.declared.AffineMap.{AffineMap}
-use Rattle.outline.specs.EdgeSums.{openEdges, edges, sumOver, outlineTotals, over}
+use Rattle.outline.specs.EdgeSums.{openEdges, edges, sumOver, outlineTotals, over, exceed, outlineBounds}
 use Rattle.outline.specs.ListCall.{accepted, refused, points, numbers, outside, anyOutside, wrongLength, listCall}
 use Rattle.outline.specs.MapCall.{movePoint, moved, disallowed, mapped, mapCall}
 use Rattle.centroid.proofs.WorkedCentres.{totals}
@@ -16,7 +16,7 @@ use Rattle.moves.specs.MovedTwice.{CompositionMeans, FormulasTwice, Call
 use Rattle.moves.specs.ShiftedCentre.{shift}
 use Rattle.moves.proofs.Composition.{composition-means, formulas-twice}
 use Rattle.moves.proofs.MovedTwice.{calls-twice, composition-call, outline-twice, outline-at-once, outline-in-turn}
-use Rattle.moves.proofs.WorkedMoves.{threeEast, quarterTurn, rectangle, shifted, shiftedThenTurned, rectangle-moved}
+use Rattle.moves.proofs.WorkedMoves.{minus, threeEast, quarterTurn, rectangle, shifted, shiftedThenTurned, rectangle-moved}
 
 -- ---- the theorems are of these statements
 
@@ -35,18 +35,22 @@ three-maps one two three = composition-means one (composed two three) (composed 
 three-times : (one two three : AffineMap) (t : Totals) → mapped three (mapped two (mapped one t)) ≡ mapped (composed one (composed two three)) t
 three-times one two three t = formulas-twice two three (mapped one t) ∙ formulas-twice one (composed two three) t
 
--- Totals and maps past every limit; and a first map without area, u = x + 5, v = 2x − 5.
+-- Totals and a map past every limit; and a first map without area, u = x + 5, v = 2x − 5.
 abbrev huge : Totals
-huge = totals (pos (10 ^ 30)) (negsuc (10 ^ 31)) (pos 7) (pos (10 ^ 32)) (pos 1) (negsuc 8)
+huge = totals (pos (10 ^ 30)) (minus (10 ^ 31)) (pos (10 ^ 31)) (pos (10 ^ 32)) (pos (10 ^ 32)) (minus (10 ^ 32))
+
+huge-exceeds : exceed outlineBounds huge ≡ true
+unfolding exceed over
+huge-exceeds = refl
 
 abbrev hugeMap : AffineMap
-hugeMap = record { a = pos 9; b = negsuc 99; g = pos 3; h = pos 1000; e = pos (10 ^ 9); f = negsuc 4 }
-
-abbrev flat : AffineMap
-flat = record { a = pos 1; b = pos 0; g = pos 2; h = pos 0; e = pos 5; f = negsuc 4 }
+hugeMap = record { a = pos 9; b = minus 100; g = pos 3; h = pos 1000; e = pos (10 ^ 9); f = minus (10 ^ 9) }
 
 past-every-limit : mapped hugeMap (mapped hugeMap huge) ≡ mapped (composed hugeMap hugeMap) huge
 past-every-limit = formulas-twice hugeMap hugeMap huge
+
+abbrev flat : AffineMap
+flat = record { a = pos 1; b = pos 0; g = pos 2; h = pos 0; e = pos 5; f = minus 5 }
 
 flat-first : mapped quarterTurn (mapped flat huge) ≡ mapped (composed flat quarterTurn) huge
 flat-first = formulas-twice flat quarterTurn huge
@@ -82,7 +86,7 @@ abbrev farEast : AffineMap
 farEast = shift (pos 2000) (pos 0)
 
 abbrev farWest : AffineMap
-farWest = shift (negsuc 1999) (pos 0)
+farWest = shift (minus 2000) (pos 0)
 
 rectangle-taken : listCall rectangleNumbers ≡ accepted rectangle
 unfolding openEdges edges sumOver over points outside anyOutside wrongLength listCall
@@ -94,3 +98,38 @@ there-and-back = (refl, refl, refl)
 
 out-and-in : mapCall (composed farEast farWest) rectangle ≡ listCall (numbers (moved farWest (moved farEast (points rectangleNumbers))))
 out-and-in = outline-at-once rectangleNumbers rectangle rectangle-taken farEast farWest (there-and-back .2) (there-and-back .1)
+
+-- Nor need the composition be allowed: u = x + 2,000, v = 2y, and then u = x + 2y − 2,000, v = y make u = x + 4y.
+abbrev triangle : List ℤ
+triangle = pos 1 ∷ pos 0 ∷ pos 2 ∷ pos 0 ∷ pos 1 ∷ pos 1 ∷ []
+
+abbrev triangleTotals : Totals
+triangleTotals = totals (pos 1) (pos 4) (pos 1) (pos 11) (pos 5) (pos 1)
+
+abbrev stretch : AffineMap
+stretch = record { a = pos 1; b = pos 0; g = pos 0; h = pos 2; e = pos 2000; f = pos 0 }
+
+abbrev shear : AffineMap
+shear = record { a = pos 1; b = pos 2; g = pos 0; h = pos 1; e = minus 2000; f = pos 0 }
+
+abbrev stretched : Totals
+stretched = totals (pos 2) (pos 12_008) (pos 4) (pos 48_064_022) (pos 32_020) (pos 8)
+
+abbrev sheared : Totals
+sheared = totals (pos 2) (pos 16) (pos 4) (pos 94) (pos 52) (pos 8)
+
+record Sheared : Type 0 where
+  taken : listCall triangle ≡ accepted triangleTotals
+  stretched-first : mapCall stretch triangleTotals ≡ accepted stretched
+  then-sheared : mapCall shear stretched ≡ accepted sheared
+  stays : anyOutside (moved shear (moved stretch (points triangle))) ≡ false
+  not-allowed : disallowed (composed stretch shear) ≡ true
+
+triangle-sheared : Sheared
+unfolding openEdges edges sumOver over exceed points outside anyOutside wrongLength listCall disallowed mapCall
+triangle-sheared = record { taken = refl; stretched-first = refl; then-sheared = refl; stays = refl; not-allowed = refl }
+
+sheared-in-turn : listCall (numbers (moved shear (moved stretch (points triangle)))) ≡ accepted sheared
+sheared-in-turn =
+    let k = triangle-sheared in
+    outline-in-turn triangle triangleTotals (k .taken) stretch shear stretched (k .stretched-first) sheared (k .then-sheared) (k .stays)

@@ -1,17 +1,18 @@
 -- The laws of shifted centres (document 02, CR 7) used, so that a weaker one is refused here: with every quantifier left free, and at the edge of what each covers.
 use mathlib.Core.Path.{_≡_, refl, _∙_, ap}
+use mathlib.Core.Bool.{true}
 use mathlib.Core.List.{List, [], _∷_}
 use Prim.Native.Nat.{_^_}
-use lib.IntN.{ℤ, pos, negsuc, _+ℤ_, _*ℤ_}
+use lib.IntN.{ℤ, pos, _+ℤ_, _*ℤ_}
 use Rattle.outline.specs.declared.Totals.{Totals}
 use Rattle.outline.specs.EdgeSums.{openEdges, edges, sumOver, over, exceed}
-use Rattle.outline.specs.ListCall.{accepted, refused, points, numbers, outside, anyOutside, wrongLength, listCall}
+use Rattle.outline.specs.ListCall.{accepted, points, numbers, outside, anyOutside, wrongLength, listCall}
 use Rattle.outline.specs.MapCall.{moved, disallowed, mapped, mapCall}
-use Rattle.centroid.specs.Centroid.{CentroidOutcome, refused as noCentre, isCentre, firstCentre, centre, signedBy, outlineCentroidCall}
+use Rattle.centroid.specs.Centroid.{CentroidOutcome, refused as noCentre, outlineCentroidCall}
 use Rattle.centroid.proofs.WorkedCentres.{totals}
 use Rattle.moves.specs.ShiftedCentre.{shift, unitsPerDecimetre, shiftedBy, HasCentre, TotalsShifted, CallShifted, OutlineShifted}
 use Rattle.moves.proofs.ShiftedCentre.{totals-shifted, call-shifted, outline-shifted}
-use Rattle.moves.proofs.WorkedMoves.{reversedSquare}
+use Rattle.moves.proofs.WorkedMoves.{minus, reversedSquare, worked-shifts}
 
 abbrev at : ℤ → ℤ → CentroidOutcome
 at x y = record { number = 0; x = x; y = y }
@@ -28,16 +29,12 @@ any-totals : (t : Totals) (e f x y : ℤ) → outlineCentroidCall t ≡ at x y �
 any-totals t e f x y before after = totals-shifted t e f (ap (λ c. c .number) before) after ∙ ap (shiftedBy e f) before
 
 -- A2 below 0: the centre is at (1, 1), and one decimetre west at (0, 1).
-backwards-before : outlineCentroidCall reversedSquare ≡ at (pos 1) (pos 1)
-unfolding isCentre firstCentre centre signedBy outlineCentroidCall over exceed
-backwards-before = refl
-
-backwards-after : HasCentre (mapped (shift (negsuc 0) (pos 0)) reversedSquare)
+backwards-after : HasCentre (mapped (shift (minus 1) (pos 0)) reversedSquare)
 unfolding outlineCentroidCall over exceed
 backwards-after = refl
 
-backwards-shifted : outlineCentroidCall (mapped (shift (negsuc 0) (pos 0)) reversedSquare) ≡ at (pos 0) (pos 1)
-backwards-shifted = totals-shifted reversedSquare (negsuc 0) (pos 0) (ap (λ c. c .number) backwards-before) backwards-after ∙ ap (shiftedBy (negsuc 0) (pos 0)) backwards-before
+backwards-shifted : outlineCentroidCall (mapped (shift (minus 1) (pos 0)) reversedSquare) ≡ at (pos 0) (pos 1)
+backwards-shifted = totals-shifted reversedSquare (minus 1) (pos 0) (ap (λ c. c .number) (worked-shifts .backwards-before)) backwards-after ∙ ap (shiftedBy (minus 1) (pos 0)) (worked-shifts .backwards-before)
 
 -- Totals past the outline bounds, as a sheet may have, and a shift that 3 refuses: 5,000 west.
 abbrev largeSheet : Totals
@@ -47,12 +44,12 @@ large-before : HasCentre largeSheet
 unfolding outlineCentroidCall over exceed
 large-before = refl
 
-large-after : HasCentre (mapped (shift (negsuc 4999) (pos 0)) largeSheet)
+large-after : HasCentre (mapped (shift (minus 5000) (pos 0)) largeSheet)
 unfolding outlineCentroidCall over exceed
 large-after = refl
 
-large-shifted : outlineCentroidCall (mapped (shift (negsuc 4999) (pos 0)) largeSheet) ≡ shiftedBy (negsuc 4999) (pos 0) (outlineCentroidCall largeSheet)
-large-shifted = totals-shifted largeSheet (negsuc 4999) (pos 0) large-before large-after
+large-shifted : outlineCentroidCall (mapped (shift (minus 5000) (pos 0)) largeSheet) ≡ shiftedBy (minus 5000) (pos 0) (outlineCentroidCall largeSheet)
+large-shifted = totals-shifted largeSheet (minus 5000) (pos 0) large-before large-after
 
 -- ---- the map call
 
@@ -61,7 +58,7 @@ any-call t e f after h = call-shifted t e f after h
 
 -- The figure eight has no centre, wherever the call shifts it.
 abbrev figureEight : Totals
-figureEight = totals (pos 0) (negsuc 7) (pos 0) (negsuc 31) (negsuc 31) (pos 0)
+figureEight = totals (pos 0) (minus 8) (pos 0) (minus 32) (minus 32) (pos 0)
 
 eight-refused : outlineCentroidCall figureEight ≡ noCentre 27
 unfolding outlineCentroidCall over exceed
@@ -75,12 +72,12 @@ eight-shifted e f after h = call-shifted figureEight e f after h ∙ ap (shifted
 any-outline : (zs : List ℤ) (t : Totals) → listCall zs ≡ accepted t → (e f : ℤ) (after : Totals) → listCall (numbers (moved (shift e f) (points zs))) ≡ accepted after → outlineCentroidCall after ≡ shiftedBy e f (outlineCentroidCall t)
 any-outline zs t taken e f after h = outline-shifted zs t taken e f after h
 
--- A square at the western limit, shifted to the eastern one: by 3,999, which no map may.
+-- A square at the western limit, shifted to the eastern one by 3,999, which 3 refuses.
 abbrev western : List ℤ
-western = negsuc 1999 ∷ pos 0 ∷ negsuc 1998 ∷ pos 0 ∷ negsuc 1998 ∷ pos 1 ∷ negsuc 1999 ∷ pos 1 ∷ []
+western = minus 2000 ∷ pos 0 ∷ minus 1999 ∷ pos 0 ∷ minus 1999 ∷ pos 1 ∷ minus 2000 ∷ pos 1 ∷ []
 
 abbrev westernTotals : Totals
-westernTotals = totals (pos 2) (negsuc 11996) (pos 3) (pos 47_976_004) (negsuc 23993) (pos 4)
+westernTotals = totals (pos 2) (minus 11_997) (pos 3) (pos 47_976_004) (minus 23_994) (pos 4)
 
 abbrev easternTotals : Totals
 easternTotals = totals (pos 2) (pos 11_997) (pos 3) (pos 47_976_004) (pos 23_994) (pos 4)
@@ -93,9 +90,9 @@ eastern-taken : listCall (numbers (moved (shift (pos 3999) (pos 0)) (points west
 unfolding openEdges edges sumOver over points numbers outside anyOutside wrongLength listCall
 eastern-taken = refl
 
-no-map-may : mapCall (shift (pos 3999) (pos 0)) westernTotals ≡ refused 3
-unfolding mapCall disallowed over
-no-map-may = refl
+too-large : disallowed (shift (pos 3999) (pos 0)) ≡ true
+unfolding disallowed over
+too-large = refl
 
 eastern-centre : outlineCentroidCall easternTotals ≡ shiftedBy (pos 3999) (pos 0) (outlineCentroidCall westernTotals)
 eastern-centre = outline-shifted western westernTotals western-taken (pos 3999) (pos 0) easternTotals eastern-taken

@@ -14,7 +14,7 @@ use Rattle.centroid.proofs.WorkedCentres.{totals}
 use Rattle.moves.specs.Composition.{composed}
 use Rattle.moves.specs.ShiftedCentre.{shift, shiftedBy}
 
-abbrev minus : ℕ → ℤ
+abbrev pub minus : ℕ → ℤ
 minus n = negℤ (pos n)
 
 -- ---- a shift and a quarter turn
@@ -23,12 +23,12 @@ minus n = negℤ (pos n)
 abbrev pub threeEast : AffineMap
 threeEast = shift (pos 3) (minus 2)
 
--- u = −y, v = x.
-abbrev pub quarterTurn : AffineMap
-quarterTurn = record { a = pos 0; b = minus 1; g = pos 1; h = pos 0; e = pos 0; f = pos 0 }
-
+-- u = −y + e, v = x + f: a quarter turn, then a shift.
 abbrev turnAnd : ℤ → ℤ → AffineMap
 turnAnd e f = record { a = pos 0; b = minus 1; g = pos 1; h = pos 0; e = e; f = f }
+
+abbrev pub quarterTurn : AffineMap
+quarterTurn = turnAnd (pos 0) (pos 0)
 
 -- The point (10, 4) goes to (13, 2) and then to (−2, 13); turned first, to (−4, 10) and then to (−1, 8).
 record Composed : Type 0 where
@@ -59,7 +59,7 @@ turnedThenShifted = totals (pos 80) (minus 240) (pos 720) (pos 1760) (minus 4800
 pub record RectangleMoved : Type 0 where
   pub shift-first : mapCall threeEast rectangle ≡ accepted shifted
   pub then-turn : mapCall quarterTurn shifted ≡ accepted shiftedThenTurned
-  pub at-once : mapCall (composed threeEast quarterTurn) rectangle ≡ accepted shiftedThenTurned
+  at-once : mapCall (composed threeEast quarterTurn) rectangle ≡ accepted shiftedThenTurned
   turn-first : mapCall quarterTurn rectangle ≡ accepted turned
   then-shift : mapCall threeEast turned ≡ accepted turnedThenShifted
   at-once-too : mapCall (composed quarterTurn threeEast) rectangle ≡ accepted turnedThenShifted
@@ -113,11 +113,11 @@ reversedSquare = totals (minus 2) (minus 3) (minus 3) (minus 4) (minus 6) (minus
 abbrev atLimit : Totals
 atLimit = totals (pos 2) (pos 3) (pos 3) (pos (10 ^ 18)) (pos 6) (pos 4)
 
-record Shifted : Type 0 where
+pub record Shifted : Type 0 where
   rectangle-before : outlineCentroidCall rectangle ≡ record { number = 0; x = pos 5; y = pos 4 }
   rectangle-after : outlineCentroidCall shifted ≡ record { number = 0; x = pos 8; y = pos 2 }
   -- Halves go up on both sides of 0: from 1/2 to 1, and from −1/2 to 0.
-  backwards-before : outlineCentroidCall reversedSquare ≡ record { number = 0; x = pos 1; y = pos 1 }
+  pub backwards-before : outlineCentroidCall reversedSquare ≡ record { number = 0; x = pos 1; y = pos 1 }
   backwards-after : outlineCentroidCall (mapped (shift (minus 1) (pos 0)) reversedSquare) ≡ record { number = 0; x = pos 0; y = pos 1 }
   -- 11 may come on one side alone: XX12 passes its limit. The law is silent there.
   limit-before : outlineCentroidCall atLimit ≡ record { number = 0; x = pos 1; y = pos 1 }
@@ -128,6 +128,6 @@ record Shifted : Type 0 where
   no-area : shiftedBy (pos 3) (minus 2) (noCentre 27) ≡ noCentre 27
   past-limits : shiftedBy (pos 3) (minus 2) (noCentre 11) ≡ noCentre 11
 
-worked-shifts : Shifted
+pub worked-shifts : Shifted
 unfolding isCentre firstCentre centre signedBy outlineCentroidCall over exceed
 worked-shifts = record { rectangle-before = refl; rectangle-after = refl; backwards-before = refl; backwards-after = refl; limit-before = refl; limit-after = refl; limit-back = refl; by-shift = refl; no-area = refl; past-limits = refl }

@@ -23,10 +23,10 @@ fn show_map(m: AffineMap) {
 }
 
 // Asked: two maps. Answered: number and six totals of the second call, which is given what the first answers.
-fn move_row(t: Totals, first: AffineMap, second: AffineMap) {
+fn move_twice_row(t: Totals, first: AffineMap, second: AffineMap) {
     let once = map_totals(first, t);
     let twice = map_totals(second, totals_of_map(once));
-    show_label(b"move");
+    show_label(b"move-twice");
     show_map(first);
     show_map(second);
     show_natural(twice.number() as u64);
@@ -34,7 +34,7 @@ fn move_row(t: Totals, first: AffineMap, second: AffineMap) {
     end_row();
 }
 
-// Asked: a map. Answered: number, six totals; number, x and y of their centre.
+// Asked: a map. Answered: number, six totals; number, x and y of their centre. The zeros of a refusal have none: 27.
 fn move_once_row(t: Totals, m: AffineMap) {
     let answer = map_totals(m, t);
     let totals = totals_of_map(answer);
@@ -61,10 +61,10 @@ pub(crate) fn move_rows() {
     let turn = map_of(0, -1, 1, 0, 0, 0);
     let doubling = map_of(2, 0, 0, 2, 0, 0);
     move_once_row(rectangle, shift);
-    move_row(rectangle, shift, turn);
+    move_twice_row(rectangle, shift, turn);
     move_once_row(rectangle, map_of(0, -1, 1, 0, 2, 3));
-    move_row(rectangle, turn, shift);
+    move_twice_row(rectangle, turn, shift);
     move_once_row(rectangle, map_of(0, -1, 1, 0, 3, -2));
-    move_row(rectangle, doubling, doubling);
+    move_twice_row(rectangle, doubling, doubling);
     move_once_row(rectangle, map_of(4, 0, 0, 4, 0, 0));
 }

@@ -34,7 +34,7 @@ pub data Row : Type 0 where
   centre : List Position → CentroidOutcome → Row
   -- The map call on the totals that it answers.
   mapping : AffineMap → List Position → Outcome → Row
-  -- The map call on what it answers with another map before.
+  -- The map call with the second map, on what it answers with the first.
   mappingTwice : AffineMap → AffineMap → List Position → Outcome → Row
   -- The composition of two maps.
   composition : AffineMap → AffineMap → AffineMap → Row
@@ -231,22 +231,23 @@ abbrev pub threeEast : AffineMap
 threeEast = shift (pos 3) (minus 2)
 
 -- u = −y + e, v = x + f: a quarter turn, then a shift.
-abbrev pub quarterTurn : ℤ → ℤ → AffineMap
-quarterTurn e f = record { a = pos 0; b = minus 1; g = pos 1; h = pos 0; e = e; f = f }
+abbrev pub turnAnd : ℤ → ℤ → AffineMap
+turnAnd e f = record { a = pos 0; b = minus 1; g = pos 1; h = pos 0; e = e; f = f }
 
-abbrev pub turn : AffineMap
-turn = quarterTurn (pos 0) (pos 0)
+abbrev pub quarterTurn : AffineMap
+quarterTurn = turnAnd (pos 0) (pos 0)
 
--- Shifted, then turned; turned, then shifted: in two calls, and at once by the composition. Then centres after a shift, of the rectangle and of a square walked backwards.
+-- Shifted; shifted, then turned; turned, then shifted: in two calls, and at once by the composition. Then centres: of the rectangle shifted, and of a square walked backwards
+-- before and after a shift.
 abbrev pub moveRows : List Row
 moveRows =
     mapping threeEast rectangle (accepted (totals (pos 80) (pos 1920) (pos 480) (pos 33440) (pos 17280) (pos 3200)))
-    ∷ mappingTwice threeEast turn rectangle (accepted (totals (pos 80) (minus 480) (pos 1920) (pos 3200) (minus 17280) (pos 33440)))
-    ∷ composition threeEast turn (quarterTurn (pos 2) (pos 3))
-    ∷ mapping (quarterTurn (pos 2) (pos 3)) rectangle (accepted (totals (pos 80) (minus 480) (pos 1920) (pos 3200) (minus 17280) (pos 33440)))
-    ∷ mappingTwice turn threeEast rectangle (accepted (totals (pos 80) (minus 240) (pos 720) (pos 1760) (minus 4800) (pos 7040)))
-    ∷ composition turn threeEast (quarterTurn (pos 3) (minus 2))
-    ∷ mapping (quarterTurn (pos 3) (minus 2)) rectangle (accepted (totals (pos 80) (minus 240) (pos 720) (pos 1760) (minus 4800) (pos 7040)))
+    ∷ mappingTwice threeEast quarterTurn rectangle (accepted (totals (pos 80) (minus 480) (pos 1920) (pos 3200) (minus 17280) (pos 33440)))
+    ∷ composition threeEast quarterTurn (turnAnd (pos 2) (pos 3))
+    ∷ mapping (turnAnd (pos 2) (pos 3)) rectangle (accepted (totals (pos 80) (minus 480) (pos 1920) (pos 3200) (minus 17280) (pos 33440)))
+    ∷ mappingTwice quarterTurn threeEast rectangle (accepted (totals (pos 80) (minus 240) (pos 720) (pos 1760) (minus 4800) (pos 7040)))
+    ∷ composition quarterTurn threeEast (turnAnd (pos 3) (minus 2))
+    ∷ mapping (turnAnd (pos 3) (minus 2)) rectangle (accepted (totals (pos 80) (minus 240) (pos 720) (pos 1760) (minus 4800) (pos 7040)))
     ∷ centre (moved threeEast rectangle) (centreAt (pos 8) (pos 2))
     ∷ centre (reverse unitSquare) (centreAt (pos 1) (pos 1))
     ∷ centre (moved (shift (minus 1) (pos 0)) (reverse unitSquare)) (centreAt (pos 0) (pos 1))
