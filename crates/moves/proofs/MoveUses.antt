@@ -20,8 +20,8 @@ use Rattle.moves.proofs.WorkedMoves.{minus, threeEast, quarterTurn, rec
 
 -- ---- the theorems are of these statements
 
-moved-twice : CompositionMeans × FormulasTwice × CallsTwice × CompositionCall × OutlineTwice × OutlineAtOnce × OutlineInTurn
-moved-twice = (composition-means, formulas-twice, calls-twice, composition-call, outline-twice, outline-at-once, outline-in-turn)
+moves-proved : CompositionMeans × FormulasTwice × CallsTwice × CompositionCall × OutlineTwice × OutlineAtOnce × OutlineInTurn
+moves-proved = (composition-means, formulas-twice, calls-twice, composition-call, outline-twice, outline-at-once, outline-in-turn)
 
 -- ---- points and formulas
 

@@ -19,8 +19,8 @@ at x y = record { number = 0; x = x; y = y }
 
 -- ---- the theorems are of these statements
 
-centres-shifted : TotalsShifted × CallShifted × OutlineShifted
-centres-shifted = (totals-shifted, call-shifted, outline-shifted)
+shifts-proved : TotalsShifted × CallShifted × OutlineShifted
+shifts-proved = (totals-shifted, call-shifted, outline-shifted)
 
 -- ---- any six totals
 
