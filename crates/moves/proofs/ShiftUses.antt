@@ -29,12 +29,10 @@ any-totals : (t : Totals) (e f x y : ℤ) → outlineCentroidCall t ≡ at x y �
 any-totals t e f x y before after = totals-shifted t e f (ap (λ c. c .number) before) after ∙ ap (shiftedBy e f) before
 
 -- A2 below 0: the centre is at (1, 1), and one decimetre west at (0, 1).
-backwards-after : HasCentre (mapped (shift (minus 1) (pos 0)) reversedSquare)
-unfolding outlineCentroidCall over exceed
-backwards-after = refl
-
 backwards-shifted : outlineCentroidCall (mapped (shift (minus 1) (pos 0)) reversedSquare) ≡ at (pos 0) (pos 1)
-backwards-shifted = totals-shifted reversedSquare (minus 1) (pos 0) (ap (λ c. c .number) (worked-shifts .backwards-before)) backwards-after ∙ ap (shiftedBy (minus 1) (pos 0)) (worked-shifts .backwards-before)
+backwards-shifted =
+    let k = worked-shifts in
+    totals-shifted reversedSquare (minus 1) (pos 0) (ap (λ c. c .number) (k .backwards-before)) (ap (λ c. c .number) (k .backwards-after)) ∙ ap (shiftedBy (minus 1) (pos 0)) (k .backwards-before)
 
 -- Totals past the outline bounds, as a sheet may have, and a shift that 3 refuses: 5,000 west.
 abbrev largeSheet : Totals

@@ -118,7 +118,7 @@ pub record Shifted : Type 0 where
   rectangle-after : outlineCentroidCall shifted ≡ record { number = 0; x = pos 8; y = pos 2 }
   -- Halves go up on both sides of 0: from 1/2 to 1, and from −1/2 to 0.
   pub backwards-before : outlineCentroidCall reversedSquare ≡ record { number = 0; x = pos 1; y = pos 1 }
-  backwards-after : outlineCentroidCall (mapped (shift (minus 1) (pos 0)) reversedSquare) ≡ record { number = 0; x = pos 0; y = pos 1 }
+  pub backwards-after : outlineCentroidCall (mapped (shift (minus 1) (pos 0)) reversedSquare) ≡ record { number = 0; x = pos 0; y = pos 1 }
   -- 11 may come on one side alone: XX12 passes its limit. The law is silent there.
   limit-before : outlineCentroidCall atLimit ≡ record { number = 0; x = pos 1; y = pos 1 }
   limit-after : outlineCentroidCall (mapped (shift (pos 1) (pos 0)) atLimit) ≡ noCentre 11
