@@ -3,7 +3,7 @@ use Prim.Native.Nat.{ℕ}
 use mathlib.Core.Path.{_≡_, refl}
 use mathlib.Core.List.{List, [], _∷_}
 use lib.ListN.{replicate}
-use Rattle.word_runs.specs.Bits.{firstWhere}
+use Rattle.integers.specs.Search.{firstWhere}
 use Rattle.cells.specs.declared.Run.{Run}
 use Rattle.cells.specs.RunCells.{cellsFrom}
 use Rattle.cells.specs.RegionCall.{tooMany}

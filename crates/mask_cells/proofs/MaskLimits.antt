@@ -8,7 +8,7 @@ use lib.IntN.{pos}
 use lib.ListN.{length, replicate}
 use borrow.Author.Tests.{lt-ltb, le-ltb, eq-eqb, ne-eqb}
 use Rattle.integers.proofs.Flags.{neither}
-use Rattle.word_runs.specs.Bits.{firstWhere}
+use Rattle.integers.specs.Search.{firstWhere}
 use Rattle.cells.specs.declared.Run.{Run}
 use Rattle.cells.specs.RunCells.{cellsFrom}
 use Rattle.cells.specs.RegionCall.{tooMany}

@@ -9,7 +9,7 @@ use native.Mathlib.Omega.{arith}
 use lib.Dec.{eqb}
 use borrow.Author.Tests.{eqb-true, eqb-false, eq-eqb, ne-eqb}
 use Rattle.word_runs.specs.private.WordList.{bitAt, firstBit}
-use Rattle.word_runs.proofs.Searches.{found-bounds, found-holds, none-before}
+use Rattle.integers.proofs.Searches.{found-bounds, found-holds, none-before}
 use Rattle.mask_cells.specs.MaskCells.{isMarked}
 use Rattle.mask_cells.specs.private.Positions.{cellOf, rowEnd}
 use Rattle.mask_cells.proofs.Positions.{marked-at}

@@ -7,8 +7,8 @@ use Prim.Native.Nat.{ℕ, zero, suc, _+_, _-_, _*_, _/_, _%_, _≤_, _<_}
 use native.Mathlib.Nat.{eq-or-lt-of-le, eq-zero-or-pos}
 use native.Mathlib.Omega.{arith}
 use borrow.Author.Tests.{eq-eqb, ne-eqb}
-use Rattle.word_runs.specs.Bits.{firstWhere}
-use Rattle.word_runs.proofs.Searches.{found-at}
+use Rattle.integers.specs.Search.{firstWhere}
+use Rattle.integers.proofs.Searches.{found-at}
 use Rattle.cells.specs.declared.Run.{Run}
 use Rattle.mask_cells.specs.MaskCells.{cellAt, isMarked, those, beginsRun, endColumn, runFrom}
 use Rattle.mask_cells.specs.private.Positions.{cellOf, cellsOn, rowEnd, runBetween}

@@ -8,7 +8,7 @@ use native.Mathlib.Nat.{eq-or-lt-of-le}
 use native.Mathlib.Omega.{arith}
 use lib.Dec.{eqb}
 use Rattle.word_runs.specs.private.WordList.{bitAt, firstBit}
-use Rattle.word_runs.proofs.Searches.{found-bounds}
+use Rattle.integers.proofs.Searches.{found-bounds}
 use Rattle.cells.specs.declared.Run.{Run}
 use Rattle.mask_cells.specs.MaskCells.{isMarked, those, beginsRun, runFrom, longestRuns}
 use Rattle.mask_cells.specs.private.Positions.{cellsOn, rowEnd, runBetween}

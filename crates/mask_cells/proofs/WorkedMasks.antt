@@ -4,7 +4,7 @@ use mathlib.Core.Path.{_≡_, refl}
 use mathlib.Core.List.{List, [], _∷_, _++_}
 use lib.IntN.{pos}
 use lib.ListN.{length, replicate}
-use Rattle.word_runs.specs.Bits.{firstWhere}
+use Rattle.integers.specs.Search.{firstWhere}
 use Rattle.cell_ground.specs.CellSums.{sumsOver}
 use Rattle.cell_ground.specs.Ground.{groundOf}
 use Rattle.cells.specs.declared.Run.{Run}

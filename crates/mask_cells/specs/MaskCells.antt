@@ -4,7 +4,8 @@ use mathlib.Core.Bool.{Bool, not, _&&_, _||_, cond}
 use mathlib.Core.List.{List, [], _∷_, _++_, map}
 use lib.Dec.{eqb}
 use lib.ListN.{length, getD}
-use Rattle.word_runs.specs.Bits.{bit, firstWhere}
+use Rattle.integers.specs.Search.{firstWhere}
+use Rattle.word_runs.specs.Bits.{bit}
 use Rattle.cell_ground.specs.CellSums.{Cell}
 use Rattle.cells.specs.declared.Run.{Run}
 use Rattle.cells.specs.RunCells.{cellsFrom}

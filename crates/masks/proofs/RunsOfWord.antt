@@ -9,8 +9,9 @@ use borrow.Author.Tests.{eqb-true, eqb-false, eq-eqb, ne-eqb}
 use lib.Dec.{eqb}
 use lib.IntN.{+ℤ-idr, +ℤ-assoc}
 use lib.Pow.{pow-pos}
-use Rattle.word_runs.specs.Bits.{bit, firstWhere, firstOf}
-use Rattle.word_runs.proofs.Searches.{found-bounds, found-holds, none-before}
+use Rattle.integers.specs.Search.{firstWhere}
+use Rattle.word_runs.specs.Bits.{bit, firstOf}
+use Rattle.integers.proofs.Searches.{found-bounds, found-holds, none-before}
 use Rattle.word_runs.proofs.WordSearch.{within-word}
 use Rattle.column_sums.specs.SumsBelow.{squareSum}
 use Rattle.cell_ground.specs.CellSums.{Cell, CellSums, noSums, plusSums, sumsOver}

@@ -7,7 +7,7 @@ use native.Mathlib.Omega.{arith}
 use lib.Dec.{eqb}
 use lib.Pow.{shr-shr}
 use Rattle.word_runs.specs.Bits.{bit, firstOf}
-use Rattle.word_runs.proofs.Searches.{same-search}
+use Rattle.integers.proofs.Searches.{same-search}
 
 -- The next bit is the same bit of half the number.
 bit-of-half : (x i : ℕ) → bit (x / 2) i ≡ bit x (suc i)

@@ -1,5 +1,4 @@
 pub mod Ones
-pub mod Searches
 mod Complement
 mod Zeros
 pub mod WordSearch

@@ -8,7 +8,7 @@ use lib.Dec.{eqb}
 use lib.ListN.{getD}
 use Rattle.word_runs.specs.Bits.{bit, firstOf}
 use Rattle.word_runs.specs.private.WordList.{bitAt, firstBit}
-use Rattle.word_runs.proofs.Searches.{found-bounds, goes-on, is-found, moved}
+use Rattle.integers.proofs.Searches.{found-bounds, goes-on, is-found, moved}
 
 -- ---- in one word
 

@@ -3,7 +3,8 @@ use mathlib.Core.Path.{_≡_, refl}
 use mathlib.Core.List.{[], _∷_, map}
 use mathlib.Core.Bool.{true, false}
 use Prim.Native.Nat.{ℕ, _-_}
-use Rattle.word_runs.specs.Bits.{bit, onesBelow, firstWhere, firstOf, wanted}
+use Rattle.integers.specs.Search.{firstWhere}
+use Rattle.word_runs.specs.Bits.{bit, onesBelow, firstOf, wanted}
 use Rattle.word_runs.specs.private.WordList.{bitAt, firstBit}
 
 -- Bits are counted from the lowest: 0, 1, 62, 63.

@@ -8,7 +8,8 @@ use native.Mathlib.Omega.{arith}
 use lib.Dec.{eqb}
 use lib.Pow.{shr-shr, shr-lt}
 use lib.Count.{trailingZeros, under, trailing-of-zero, trailing-le}
-use Rattle.word_runs.specs.Bits.{bit, firstWhere, firstOf}
+use Rattle.integers.specs.Search.{firstWhere}
+use Rattle.word_runs.specs.Bits.{bit, firstOf}
 use Rattle.word_runs.proofs.Ones.{bit-below}
 
 -- One place further is half the number.

@@ -1,7 +1,8 @@
 -- Document 02, CR 1: the bits of a word, how many of them are set, and where the next set or clear one stands.
 use Prim.Native.Nat.{ℕ, zero, suc, _+_, _/_, _%_, _^_}
-use mathlib.Core.Bool.{Bool, true, false, cond}
+use mathlib.Core.Bool.{Bool, true, false}
 use lib.Dec.{eqb}
+use Rattle.integers.specs.Search.{firstWhere}
 
 -- Bit i of a word, counted from the lowest: 0 or 1.
 abbrev pub bit : ℕ → ℕ → ℕ
@@ -12,13 +13,7 @@ unfoldable pub onesBelow : ℕ → ℕ → ℕ
 onesBelow zero w = 0
 onesBelow (suc n) w = onesBelow n w + bit w n
 
--- The first place that p holds of, among the n places from i on; i + n where there is none. A run begins at the first marked cell from a place on, and ends
--- before the first cell from there that is not marked.
-unfoldable pub firstWhere : (ℕ → Bool) → ℕ → ℕ → ℕ
-firstWhere p zero i = i
-firstWhere p (suc n) i = cond (p i) i (firstWhere p n (suc i))
-
--- The same in a word: the first place whose bit is v, among the n places from i on.
+-- The first place of a word whose bit is v, among the n places from i on. A run begins at the first marked cell from a place on, and ends before the first cell from there that is not marked.
 abbrev pub firstOf : ℕ → ℕ → ℕ → ℕ → ℕ
 firstOf v n w i = firstWhere (λ (k : ℕ). eqb (bit w k) v) n i
 

@@ -2,7 +2,7 @@
 use mathlib.Core.Path.{sym}
 use native.Mathlib.Omega.{arith}
 use borrow.Author.Needs.{needs}
-use Rattle.word_runs.proofs.Searches.{empty-search}
+use Rattle.integers.proofs.Searches.{empty-search}
 use Rattle.word_runs.proofs.Zeros.{place-fits, none-set, set-is}
 use Rattle.word_runs.proofs.first_set.Statement.{statement}
 use Rattle.word_runs.proofs.first_set.Tie as tie

@@ -3,7 +3,8 @@ use Prim.Native.Nat.{ℕ, _/_, _%_}
 use mathlib.Core.List.{List}
 use lib.ListN.{getD}
 use lib.Dec.{eqb}
-use Rattle.word_runs.specs.Bits.{bit, firstWhere}
+use Rattle.integers.specs.Search.{firstWhere}
+use Rattle.word_runs.specs.Bits.{bit}
 
 -- Bit i of the list, where word k has the bits from 64 k on. Past the list all bits are clear.
 abbrev pub bitAt : List ℕ → ℕ → ℕ

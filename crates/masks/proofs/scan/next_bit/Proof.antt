@@ -5,7 +5,7 @@ use native.Mathlib.Omega.{arith}
 use borrow.Author.Needs.{needs}
 use lib.ListN.{getD}
 use Rattle.word_runs.specs.Bits.{wanted}
-use Rattle.word_runs.proofs.Searches.{empty-search}
+use Rattle.integers.proofs.Searches.{empty-search}
 use Rattle.word_runs.proofs.WordSearch.{within-word, found-here, not-here}
 use Rattle.masks.proofs.scan.next_bit.Statement.{statement}
 use Rattle.masks.proofs.scan.next_bit.Tie as tie

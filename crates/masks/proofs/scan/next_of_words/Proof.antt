@@ -7,7 +7,7 @@ use borrow.Author.Needs.{needs}
 use lib.ListN.{getD}
 use Rattle.word_runs.specs.Bits.{wanted, firstOf}
 use Rattle.word_runs.specs.private.WordList.{firstBit}
-use Rattle.word_runs.proofs.Searches.{empty-search}
+use Rattle.integers.proofs.Searches.{empty-search}
 use Rattle.word_runs.proofs.WordSearch.{within-word, found-here, not-here}
 use Rattle.masks.proofs.scan.next_of_words.Statement.{statement}
 use Rattle.masks.proofs.scan.next_of_words.Tie as tie

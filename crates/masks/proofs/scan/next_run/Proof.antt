@@ -7,7 +7,7 @@ use borrow.Author.Needs.{needs}
 use lib.Dec.{eqb}
 use lib.ListN.{length}
 use Rattle.word_runs.specs.private.WordList.{bitAt, firstBit}
-use Rattle.word_runs.proofs.Searches.{found-bounds}
+use Rattle.integers.proofs.Searches.{found-bounds}
 use Rattle.masks.specs.private.Scan.{scanned}
 use Rattle.masks.proofs.NextRun.{scanned-bounds, startFrom, none-found, run-found}
 use Rattle.masks.proofs.scan.next_run.Statement.{statement}

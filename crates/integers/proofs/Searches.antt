@@ -7,7 +7,7 @@ use native.Mathlib.Nat.{add-zero, zero-add, add-suc, suc-add}
 use native.Mathlib.Omega.{arith}
 use lib.Dec.{T, eqb}
 use borrow.Author.Tests.{eqb-true, eqb-false}
-use Rattle.word_runs.specs.Bits.{firstWhere}
+use Rattle.integers.specs.Search.{firstWhere}
 
 module _ (p : ℕ → Bool) where
   -- ---- what is found
