@@ -1,3 +1,6 @@
+pub mod RulePlaces
+pub mod RegionCases
+pub mod LowestIndex
 pub mod RefusalLaw
 pub mod Tests
 pub mod GridLaws
@@ -9,6 +12,8 @@ pub mod RegionGround
 pub mod UniqueCells
 pub mod WorkedRun
 pub mod RunLimits
-pub mod AllowedAnswers
+pub mod WorkedIndices
+pub mod OnlyAnswers
 mod RegionUses
+mod IndexUses
 mod BigLiteral

@@ -18,22 +18,22 @@ use Rattle.cells.specs.RegionCall.{regionCall}
 use Rattle.cells.proofs.RegionGround.{region-ground}
 use Rattle.cells.proofs.WorkedRun.{worked-run}
 
-module _ (rs : List Run) (i : ℕ) (accepts : regionCall rs i .number ≡ 0) where
-  by-squares : regionCall rs i .totals ≡ squaresAdded (allCells rs)
-  by-squares = region-ground rs i accepts .cell-by-cell
+module _ (rs : List Run) (accepts : regionCall rs .number ≡ 0) where
+  by-squares : regionCall rs .totals ≡ squaresAdded (allCells rs)
+  by-squares = region-ground rs accepts .cell-by-cell
 
   in-grid : (j : ℕ) → j < length (allCells rs) → (getD (allCells rs) j origin .x < 1024) × (getD (allCells rs) j origin .y < 1024)
-  in-grid j h = let g = region-ground rs i accepts .in-grid j h in (g .column, g .row)
+  in-grid j h = let g = region-ground rs accepts .in-grid j h in (g .column, g .row)
 
-  never-4 : exceed outlineBounds (regionCall rs i .totals) ≡ false
-  never-4 = region-ground rs i accepts .in-bounds
+  never-4 : exceed outlineBounds (regionCall rs .totals) ≡ false
+  never-4 = region-ground rs accepts .in-bounds
 
-  mapped-by : (m : AffineMap) → disallowed m ≡ false → mapCall m (regionCall rs i .totals) ≡ accepted (mapped m (regionCall rs i .totals))
-  mapped-by = region-ground rs i accepts .taken
+  mapped-by : (m : AffineMap) → disallowed m ≡ false → mapCall m (regionCall rs .totals) ≡ accepted (mapped m (regionCall rs .totals))
+  mapped-by = region-ground rs accepts .taken
 
-  with-centre : 0 < length (allCells rs) → outlineCentroidCall (regionCall rs i .totals) .number ≡ 0
-  with-centre = region-ground rs i accepts .centred
+  with-centre : 0 < length (allCells rs) → outlineCentroidCall (regionCall rs .totals) .number ≡ 0
+  with-centre = region-ground rs accepts .centred
 
 -- The squares of the three cells of a run add up to its totals.
 run-squares : squaresAdded (allCells (record { row = 3; first = 2; length = 3 } ∷ [])) ≡ record { a2 = pos 6; x6 = pos 63; y6 = pos 63; xx12 = pos 468; xy24 = pos 882; yy12 = pos 444 }
-run-squares = sym (by-squares (record { row = 3; first = 2; length = 3 } ∷ []) 0 (ap (λ o. o .number) (worked-run 0))) ∙ ap (λ o. o .totals) (worked-run 0)
+run-squares = sym (by-squares (record { row = 3; first = 2; length = 3 } ∷ []) (ap (λ o. o .number) worked-run)) ∙ ap (λ o. o .totals) worked-run

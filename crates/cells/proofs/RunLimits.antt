@@ -16,7 +16,7 @@ run y x n = record { row = y; first = x; length = n }
 
 -- the number answered for each list of runs, for each run alone, and for each run after the one of row 3, column 2 and length 3
 abbrev numbers : List (List Run) → List ℕ
-numbers ls = map (λ rs. regionCall rs 0 .number) ls
+numbers ls = map (λ rs. regionCall rs .number) ls
 
 abbrev alone : List Run → List ℕ
 alone rs = numbers (map (λ r. r ∷ []) rs)
@@ -83,11 +83,11 @@ abbrev pub severalTotals : Totals
 severalTotals = record { a2 = pos 10; x6 = pos 87; y6 = pos 81; xx12 = pos 764; xy24 = pos 666; yy12 = pos 572 }
 
 pub record Accepted : Type 0 where
-  pub several-runs : (i : ℕ) → regionCall severalRuns i ≡ record { number = 0; index = 0; totals = severalTotals }
+  pub several-runs : regionCall severalRuns ≡ record { number = 0; index = 0; totals = severalTotals }
   -- three cells and one above the first: the ground is less than that of the rectangle round it
-  pub two-rows : (i : ℕ) → regionCall (run 0 0 3 ∷ run 1 0 1 ∷ []) i ≡ record { number = 0; index = 0; totals = record { a2 = pos 8; x6 = pos 30; y6 = pos 18; xx12 = pos 112; xy24 = pos 72; yy12 = pos 40 } }
-  pub no-runs : (i : ℕ) → regionCall [] i ≡ record { number = 0; index = 0; totals = record { a2 = pos 0; x6 = pos 0; y6 = pos 0; xx12 = pos 0; xy24 = pos 0; yy12 = pos 0 } }
+  pub two-rows : regionCall (run 0 0 3 ∷ run 1 0 1 ∷ []) ≡ record { number = 0; index = 0; totals = record { a2 = pos 8; x6 = pos 30; y6 = pos 18; xx12 = pos 112; xy24 = pos 72; yy12 = pos 40 } }
+  pub no-runs : regionCall [] ≡ record { number = 0; index = 0; totals = record { a2 = pos 0; x6 = pos 0; y6 = pos 0; xx12 = pos 0; xy24 = pos 0; yy12 = pos 0 } }
 
 pub accepted : Accepted
 unfolding cellsFrom cellsOf allCells sumsOver groundOf badRun anyBad liesAfter disordered tooMany regionCall
-accepted = record { several-runs = λ i. refl; two-rows = λ i. refl; no-runs = λ i. refl }
+accepted = record { several-runs = refl; two-rows = refl; no-runs = refl }

@@ -17,9 +17,12 @@ use Rattle.cells.specs.declared.Found.{Found}
 use Rattle.cells.specs.declared.Found.the-variants.{Sums, BadRun, OutOfOrder}
 use Rattle.cells.specs.declared.RegionAnswer.the-variants.{TooManyRuns}
 use Rattle.cells.specs.RunCells.{cellsOf, allCells}
-use Rattle.cells.specs.RegionCall.{emptyRun, badRun, anyBad, liesAfter, disordered, tooMany, regionCall, runAt, BreaksSix, BreaksSeven, Answers}
+use Rattle.cells.specs.RegionCall.{emptyRun, badRun, anyBad, liesAfter, disordered, tooMany, runAt, breaksSix, breaksSeven, regionCall, reading}
+use Rattle.cells.specs.RegionLaws.{LowestToBreak}
 use Rattle.cells.specs.private.Scan.{held, sumsOf, noRuns, foundWith, addRun, answerOf, SumsSmall, HasRoom}
 use Rattle.cells.proofs.GridLaws.{runs-within}
+use Rattle.cells.proofs.RulePlaces.{good-at, ordered-at}
+use Rattle.cells.proofs.LowestIndex.{lowest-is}
 
 -- ---- one run more at the end of a list
 
@@ -65,40 +68,45 @@ cells-snoc (p ∷ rs) r = ap (λ l. cellsOf p ++ l) (cells-snoc rs r) ∙ sym (a
 length-snoc : (rs : List Run) (r : Run) → length (rs ++ r ∷ []) ≡ length rs + 1
 length-snoc rs r = length-append rs (r ∷ [])
 
+-- ---- the lowest run that breaks a rule, with one run more
+
+-- A run behind others changes nothing of what they break.
+abbrev Local : (List Run → ℕ → Bool) → Type 0
+Local breaks = (rs : List Run) (r : Run) (j : ℕ) → j < length rs → breaks (rs ++ r ∷ []) j ≡ breaks rs j
+
+six-local : Local breaksSix
+six-local rs r j l = ap badRun (List·getD-append rs (r ∷ []) _ j l)
+
+seven-local : Local breaksSeven
+seven-local rs r zero l = refl
+seven-local rs r (suc j) l = rw (List·getD-append rs (r ∷ []) _ j (omega arith), List·getD-append rs (r ∷ []) _ (suc j) l)
+
+module _ (breaks : List Run → ℕ → Bool) (local : Local breaks) (rs : List Run) (r : Run) where
+  lowest-stays : {i : ℕ} → LowestToBreak breaks rs i → LowestToBreak breaks (rs ++ r ∷ []) i
+  lowest-stays {i} h =
+      record {
+        present = omega (arith, length-snoc rs r, h .present);
+        broken = local rs r i (h .present) ∙ h .broken;
+        none-lower = λ j l. local rs r j (omega (arith, h .present)) ∙ h .none-lower j l;
+      }
+
+  -- None before, and the new run breaks it.
+  lowest-here : ((j : ℕ) → j < length rs → breaks rs j ≡ false) → breaks (rs ++ r ∷ []) (length rs) ≡ true → LowestToBreak breaks (rs ++ r ∷ []) (length rs)
+  lowest-here none e = record { present = omega (arith, length-snoc rs r); broken = e; none-lower = λ j l. local rs r j l ∙ none j l }
+
+six-here : (rs : List Run) (r : Run) → breaksSix (rs ++ r ∷ []) (length rs) ≡ badRun r
+six-here rs r = ap badRun (getD-append-seam rs r [] _)
+
+seven-here : (rs : List Run) (r : Run) → breaksSeven (rs ++ r ∷ []) (length rs) ≡ not (liesAfter (lastOf rs) r)
+seven-here [] r = sym (ap not (after-none r))
+seven-here (p ∷ qs) r = rw (List·getD-append (p ∷ qs) (r ∷ []) _ (length qs) (omega arith), last-at p qs, getD-append-seam (p ∷ qs) r [] _)
+
 -- ---- what was found in the runs read so far
 
 abbrev pub Decided : List Run → Found → Type 0
 Decided rs (Sums s) = (anyBad rs ≡ false) × ((disordered rs ≡ false) × (sumsOf s ≡ sumsOver (allCells rs)))
-Decided rs (BadRun i) = (anyBad rs ≡ true) × BreaksSix rs i
-Decided rs (OutOfOrder i) = (anyBad rs ≡ false) × ((disordered rs ≡ true) × BreaksSeven rs i)
-
-module _ (rs : List Run) (r : Run) where
-  abbrev more : List Run
-  more = rs ++ r ∷ []
-
-  six-stays : {i : ℕ} → BreaksSix rs i → BreaksSix more i
-  six-stays {i} h = record { present = omega (arith, length-snoc rs r, h .present); breaks = ap badRun (List·getD-append rs (r ∷ []) _ i (h .present)) ∙ h .breaks }
-
-  six-here : badRun r ≡ true → BreaksSix more (length rs)
-  six-here e = record { present = omega (arith, length-snoc rs r); breaks = ap badRun (getD-append-seam rs r [] _) ∙ e }
-
-  seven-stays : {i : ℕ} → BreaksSeven rs i → BreaksSeven more i
-  seven-stays {i} h =
-      record {
-        later = h .later;
-        present = omega (arith, length-snoc rs r, h .present);
-        breaks = rw (List·getD-append rs (r ∷ []) _ (i - 1) (omega (arith, h .present)), List·getD-append rs (r ∷ []) _ i (h .present)) (h .breaks);
-      }
-
-seven-here : (rs : List Run) (r : Run) → liesAfter (lastOf rs) r ≡ false → BreaksSeven (rs ++ r ∷ []) (length rs)
-seven-here [] r e = absurd (false≢true (sym e ∙ after-none r))
-seven-here (p ∷ qs) r e =
-    let n : suc (length qs) - 1 ≡ length qs = omega arith in
-    record {
-      later = omega arith;
-      present = omega (arith, length-snoc (p ∷ qs) r);
-      breaks = rw (n, List·getD-append (p ∷ qs) (r ∷ []) _ (length qs) (omega arith), last-at p qs, getD-append-seam (p ∷ qs) r [] _) e;
-    }
+Decided rs (BadRun i) = (anyBad rs ≡ true) × LowestToBreak breaksSix rs i
+Decided rs (OutOfOrder i) = (anyBad rs ≡ false) × ((disordered rs ≡ true) × LowestToBreak breaksSeven rs i)
 
 -- One run more.
 decided-next : (rs : List Run) (r : Run) (a : Found) → Decided rs a → Decided (rs ++ r ∷ []) (foundWith a (length rs) (lastOf rs) r)
@@ -107,15 +115,15 @@ decided-next rs r (Sums s) (b, (o, e)) = go (badRun r) refl (liesAfter (lastOf r
   where
     go : (x : Bool) → badRun r ≡ x → (y : Bool) → liesAfter (lastOf rs) r ≡ y
         → Decided (rs ++ r ∷ []) (cond x (BadRun (length rs)) (cond (not y) (OutOfOrder (length rs)) (Sums (held (plusSums (sumsOf s) (sumsOver (cellsOf r)))))))
-    go true p y q = (rw (bad-snoc rs r, b, p), six-here rs r p)
-    go false p false q = (rw (bad-snoc rs r, b, p), (rw (order-snoc rs r, o, q), seven-here rs r q))
+    go true p y q = (rw (bad-snoc rs r, b, p), lowest-here breaksSix six-local rs r (good-at rs b) (six-here rs r ∙ p))
+    go false p false q = (rw (bad-snoc rs r, b, p), (rw (order-snoc rs r, o, q), lowest-here breaksSeven seven-local rs r (ordered-at rs o) (seven-here rs r ∙ ap not q)))
     go false p true q = (rw (bad-snoc rs r, b, p), (rw (order-snoc rs r, o, q), rw (cells-snoc rs r, sums-append, e)))
-decided-next rs r (BadRun i) (b, h) = (rw (bad-snoc rs r, b), six-stays rs r h)
+decided-next rs r (BadRun i) (b, h) = (rw (bad-snoc rs r, b), lowest-stays breaksSix six-local rs r h)
 decided-next rs r (OutOfOrder i) (b, (o, h)) = go (badRun r) refl
   where
     go : (x : Bool) → badRun r ≡ x → Decided (rs ++ r ∷ []) (cond x (BadRun (length rs)) (OutOfOrder i))
-    go true p = (rw (bad-snoc rs r, b, p), six-here rs r p)
-    go false p = (rw (bad-snoc rs r, b, p), (rw (order-snoc rs r, o), seven-stays rs r h))
+    go true p = (rw (bad-snoc rs r, b, p), lowest-here breaksSix six-local rs r (good-at rs b) (six-here rs r ∙ p))
+    go false p = (rw (bad-snoc rs r, b, p), (rw (order-snoc rs r, o), lowest-stays breaksSeven seven-local rs r h))
 
 -- ---- a scan of runs
 
@@ -158,15 +166,15 @@ many : (rs : List Run) → 4096 < length rs → tooMany rs ≡ true
 unfolding tooMany
 many rs l = lt-ltb _ (length rs) (omega arith)
 
-pub answered : (rs : List Run) {s : Scan} → Stands rs s → length rs ≤ 4096 → Answers rs (answerOf (s .found))
+pub answered : (rs : List Run) {s : Scan} → Stands rs s → length rs ≤ 4096 → reading (answerOf (s .found)) ≡ regionCall rs
 unfolding regionCall groundOf
 answered rs {s} h l = go (s .found) (h .found)
   where
-    go : (a : Found) → Decided rs a → Answers rs (answerOf a)
-    go (Sums s) (b, (o, e)) = record { outcome = rw (few rs l, b, o, e); six = λ z. absurd (omega arith); seven = λ z. absurd (omega arith) }
-    go (BadRun i) (b, k) = record { outcome = rw (few rs l, b); six = λ z. k; seven = λ z. absurd (omega arith) }
-    go (OutOfOrder i) (b, (o, k)) = record { outcome = rw (few rs l, b, o); six = λ z. absurd (omega arith); seven = λ z. k }
+    go : (a : Found) → Decided rs a → reading (answerOf a) ≡ regionCall rs
+    go (Sums s) (b, (o, e)) = rw (few rs l, b, o, e)
+    go (BadRun i) (b, k) = rw (few rs l, b, lowest-is breaksSix rs k)
+    go (OutOfOrder i) (b, (o, k)) = rw (few rs l, b, o, lowest-is breaksSeven rs k)
 
-pub too-many : (rs : List Run) → 4096 < length rs → Answers rs TooManyRuns
+pub too-many : (rs : List Run) → 4096 < length rs → reading TooManyRuns ≡ regionCall rs
 unfolding regionCall
-too-many rs l = record { outcome = rw (many rs l); six = λ z. absurd (omega arith); seven = λ z. absurd (omega arith) }
+too-many rs l = rw (many rs l)

@@ -77,10 +77,10 @@ ascending r (q ∷ qs) e =
     let (f, g) = both-failed (not (liesAfter r q)) (disordered (q ∷ qs)) e in
     run-ascends (r .row) (r .first) (r .length) (allCells (q ∷ qs)) (sooner (allCells (q ∷ qs)) (after-is r q (not-false (liesAfter r q) f)) (ascending q qs g))
 
-pub each-cell-once : (rs : List Run) (i : ℕ) → regionCall rs i .number ≡ 0 → EachOnce (allCells rs)
+pub each-cell-once : (rs : List Run) → regionCall rs .number ≡ 0 → EachOnce (allCells rs)
 unfolding allCells
-each-cell-once [] i e = once 0 0 [] tt
-each-cell-once (r ∷ rs) i e = once (r .row) (r .first) (allCells (r ∷ rs)) (ascending r rs (accepted-runs (r ∷ rs) i e .ordered))
+each-cell-once [] e = once 0 0 [] tt
+each-cell-once (r ∷ rs) e = once (r .row) (r .first) (allCells (r ∷ rs)) (ascending r rs (accepted-runs (r ∷ rs) e .ordered))
 
 -- The claim fails for a list in which a cell comes again, though not at once.
 cell-again : EachOnce (origin ∷ record { x = 1; y = 0 } ∷ origin ∷ []) → ⊥

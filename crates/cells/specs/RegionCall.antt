@@ -1,10 +1,10 @@
--- Document 01, "Cells" and the refusals 6, 7 and 8, with the totals of document 02, CR 2: the outcome of the call on a list of runs, and what its promise says.
-use Prim.Native.Nat.{ℕ, _+_, _-_, _<_, _≤_}
-use mathlib.Core.Path.{_≡_}
+-- Document 01, "Cells" and the refusals 6, 7 and 8, with the totals of document 02, CR 2, and the index of CR 8: the outcome of the call on a list of runs.
+use Prim.Native.Nat.{ℕ, zero, suc, _+_}
 use mathlib.Core.Bool.{Bool, true, false, not, _&&_, _||_, cond}
 use mathlib.Core.List.{List, [], _∷_}
 use lib.Dec.{leb, ltb, eqb}
 use lib.ListN.{length, getD}
+use Rattle.integers.specs.Search.{firstWhere}
 use Rattle.outline.specs.declared.Totals.{Totals}
 use Rattle.outline.specs.EdgeSums.{zeros}
 use Rattle.cell_ground.specs.Ground.{groundOf}
@@ -40,6 +40,25 @@ disordered (p ∷ r ∷ rs) = not (liesAfter p r) || disordered (r ∷ rs)
 unfoldable pub tooMany : List Run → Bool
 tooMany rs = ltb 4096 (length rs)
 
+-- ---- which run breaks a rule first
+
+-- The run at an index from 0, of a list that has one there.
+abbrev pub runAt : List Run → ℕ → Run
+runAt rs i = getD rs i emptyRun
+
+-- The run at this index breaks 6.
+abbrev pub breaksSix : List Run → ℕ → Bool
+breaksSix rs i = badRun (runAt rs i)
+
+-- The run at this index breaks 7: it does not lie after the run before it. The first run has none before it.
+abbrev pub breaksSeven : List Run → ℕ → Bool
+breaksSeven rs zero = false
+breaksSeven rs (suc i) = not (liesAfter (runAt rs i) (runAt rs (suc i)))
+
+-- Document 02, CR 8: the lowest index of a run that breaks a rule, of a list that has such a run.
+abbrev pub lowestIndex : (List Run → ℕ → Bool) → List Run → ℕ
+lowestIndex breaks rs = firstWhere (breaks rs) (length rs) 0
+
 -- ---- the outcome
 
 -- Number 0 with the totals where the call is accepted, else the number of its refusal and zeros. The index is 0 but with 6 and 7.
@@ -51,12 +70,12 @@ pub record RegionOutcome : Type 0 where
 abbrev pub refused : ℕ → ℕ → RegionOutcome
 refused n i = record { number = n; index = i; totals = zeros }
 
--- The totals are those of the ground under the cells of all runs. Order: 8; 6 if any run of the list breaks it, whatever stands before it; then 7. i is the index given with 6 and 7, which document 01 leaves open.
-unfoldable pub regionCall : List Run → ℕ → RegionOutcome
-regionCall rs i =
+-- The totals are those of the ground under the cells of all runs. Order: 8; 6 if any run of the list breaks it, whatever stands before it; then 7. The index is the lowest that breaks the rule of the number.
+unfoldable pub regionCall : List Run → RegionOutcome
+regionCall rs =
     cond (tooMany rs) (refused 8 0)
-    (cond (anyBad rs) (refused 6 i)
-    (cond (disordered rs) (refused 7 i)
+    (cond (anyBad rs) (refused 6 (lowestIndex breaksSix rs))
+    (cond (disordered rs) (refused 7 (lowestIndex breaksSeven rs))
     (record { number = 0; index = 0; totals = groundOf (allCells rs) })))
 
 -- ---- the answer
@@ -67,24 +86,3 @@ reading (Accepted t) = record { number = 0; index = 0; totals = t }
 reading (BadRun i) = refused 6 i
 reading (OutOfOrder i) = refused 7 i
 reading TooManyRuns = refused 8 0
-
--- The run at an index from 0, of a list that has one there.
-abbrev pub runAt : List Run → ℕ → Run
-runAt rs i = getD rs i emptyRun
-
--- There is a run at i, and it breaks 6.
-pub record BreaksSix (rs : List Run) (i : ℕ) : Type 0 where
-  pub present : i < length rs
-  pub breaks : badRun (runAt rs i) ≡ true
-
--- There is a run at i and one before it, and it does not lie after that one.
-pub record BreaksSeven (rs : List Run) (i : ℕ) : Type 0 where
-  pub later : 1 ≤ i
-  pub present : i < length rs
-  pub breaks : liesAfter (runAt rs (i - 1)) (runAt rs i) ≡ false
-
--- The promise: the answer is the outcome for the index that it gives, and with 6 or 7 a run that breaks that rule lies there.
-pub record Answers (rs : List Run) (a : RegionAnswer) : Type 0 where
-  pub outcome : reading a ≡ regionCall rs (reading a .index)
-  pub six : reading a .number ≡ 6 → BreaksSix rs (reading a .index)
-  pub seven : reading a .number ≡ 7 → BreaksSeven rs (reading a .index)

@@ -7,7 +7,7 @@ ghost use Rattle.cell_ground.specs.CellSums.{plusSums};
 ghost use Rattle.cell_ground.specs.Ground.{groundTotals};
 ghost use Rattle.cell_ground.specs.private.SumBounds.{SumsWithin};
 ghost use Rattle.column_sums.specs.Annex.{squareSums};
-ghost use Rattle.cells.specs.RegionCall.{badRun, liesAfter, reading, Answers};
+ghost use Rattle.cells.specs.RegionCall.{badRun, liesAfter, regionCall, reading};
 ghost use Rattle.cells.specs.private.Scan.{held, sumsOf, sumsBy, noRuns, foundWith, addRun, answerOf, RunInGrid, SumsSmall, HasRoom};
 use column_sums::index_sum;
 use outline::Totals;
@@ -22,7 +22,7 @@ pub struct Run {
     pub length: u32,
 }
 
-// The totals of a region, or why it has none: refusal 6 or 7 with the index of a run that breaks it, or 8.
+// The totals of a region, or why it has none: refusal 6 or 7 with the lowest index of a run that breaks it (document 02, CR 8), or 8.
 pub enum RegionAnswer {
     Accepted(Totals),
     BadRun(usize),
@@ -54,7 +54,7 @@ struct CellSums {
     yy: i64,
 }
 
-// What the runs read so far have come to: the sums over their cells, or the index of a run that breaks 6 or 7.
+// What the runs read so far have come to: the sums over their cells; or the index of the first run that breaks 6, or of the first that breaks 7 where none breaks 6.
 enum Found {
     Sums(CellSums),
     BadRun(usize),
@@ -177,7 +177,7 @@ fn no_runs() -> Scan
     }
 }
 
-// With one run more.
+// With one run more. What was found first stays, but for a 7, which gives way to the first 6.
 fn next_found(scan: Scan, run: Run, squares: &[u32]) -> Found
     requires { ⌜ HasRoom scan ⌝ }
     requires { ⌜ now squares ≡ squareSums ⌝ }
@@ -234,7 +234,7 @@ fn answer_of(scan: Scan) -> RegionAnswer
 // `region_totals`, with the table of the annex lent. Thin: what a run adds, and what all come to, is told by covered functions.
 fn totals_by_table(runs: &[Run], squares: &[u32]) -> RegionAnswer
     requires { ⌜ now squares ≡ squareSums ⌝ }
-    ensures { λ r. ⌜ Answers (now (runs .entry)) r ⌝ }
+    ensures { λ r. ⌜ reading r ≡ regionCall (now (runs .entry)) ⌝ }
 {
     if 4096 < runs.len() {
         return RegionAnswer::TooManyRuns;
@@ -250,7 +250,7 @@ fn totals_by_table(runs: &[Run], squares: &[u32]) -> RegionAnswer
 
 // The six totals of the ground under the region that the runs make up, or why it has none. The table is built once and lent.
 pub fn region_totals(runs: &[Run]) -> RegionAnswer
-    ensures { λ r. ⌜ Answers (now (runs .entry)) r ⌝ }
+    ensures { λ r. ⌜ reading r ≡ regionCall (now (runs .entry)) ⌝ }
 {
     let squares = square_sums();
     totals_by_table(runs, &squares)

@@ -10,7 +10,8 @@ ghost use Rattle.centroid.specs.Centroid.{outlineCentroidCall};
 ghost use Rattle.outline_replies.specs.OutlineReply.{totalsReply, centreReply};
 ghost use Rattle.two_walks.specs.Comparison.{figuresCall, partOf};
 ghost use Rattle.comparison_replies.specs.ComparisonReply.{comparisonReply};
-ghost use Rattle.region_replies.specs.RegionReply.{RegionReplies};
+ghost use Rattle.cells.specs.RegionCall.{regionCall};
+ghost use Rattle.region_replies.specs.RegionReply.{regionReply};
 ghost use Rattle.mask_cells.specs.MaskCalls.{maskTotalsCall, maskRunsCall};
 ghost use Rattle.mask_replies.specs.MaskReply.{maskRunsReply};
 use cells::Run;
@@ -94,10 +95,10 @@ pub extern "C" fn mavrihkel_compare_walks<'a>(
     comparison_replies::compare_walks_reply(first, second, out)
 }
 
-// The call on a list of runs: 0, 6, 7 or 8, the six totals of the ground under its cells, and with 6 or 7 the index of a run that breaks it.
+// The call on a list of runs: 0, 6, 7 or 8, the six totals of the ground under its cells, and with 6 or 7 the lowest index of a run that breaks it.
 #[no_mangle]
 pub extern "C" fn mavrihkel_region_totals(runs: &[Run], out: &mut [i64]) -> u32
-    ensures { λ r. ⌜ RegionReplies (now (runs .entry)) (now (out .entry)) (record { number = r; buffer = now (out .exit) }) ⌝ }
+    ensures { λ r. ⌜ record { number = r; buffer = now (out .exit) } ≡ regionReply (regionCall (now (runs .entry))) (now (out .entry)) ⌝ }
 {
     let answer = cells::region_totals(runs);
     region_replies::region_reply(answer, out)

@@ -65,7 +65,7 @@ module _ (ws : List ℕ) where
       → allCells rs ≡ markedCells ws → rs ≡ runs
   no-other-list = only-longest ws
 
-  runs-taken : wrongLength (length ws) ≡ false → tooMany runs ≡ false → (i : ℕ) → regionCall runs i ≡ record { number = 0; index = 0; totals = groundOf (markedCells ws) }
+  runs-taken : wrongLength (length ws) ≡ false → tooMany runs ≡ false → regionCall runs ≡ record { number = 0; index = 0; totals = groundOf (markedCells ws) }
   runs-taken = runs-accepted ws
 
   whole-ground : maskTotalsCall ws .number ≡ 0 → TotalsOfGround (markedCells ws) (maskTotalsCall ws .totals)
@@ -87,9 +87,9 @@ module _ (ws : List ℕ) where
   ones-of-all = ones-counted ws
 
   module _ (before : List Run) where
-    both-calls : maskRunsCall ws before .number ≡ 0 → (i : ℕ)
-        → regionCall (take (maskRunsCall ws before .count) (maskRunsCall ws before .list)) i ≡ record { number = maskTotalsCall ws .number; index = 0; totals = maskTotalsCall ws .totals }
-    both-calls h i = written-region ws before h .totals i ∙ ap (λ n. record { number = n; index = 0; totals = maskTotalsCall ws .totals }) (sym (written-region ws before h .mask-accepted))
+    both-calls : maskRunsCall ws before .number ≡ 0
+        → regionCall (take (maskRunsCall ws before .count) (maskRunsCall ws before .list)) ≡ record { number = maskTotalsCall ws .number; index = 0; totals = maskTotalsCall ws .totals }
+    both-calls h = written-region ws before h .totals ∙ ap (λ n. record { number = n; index = 0; totals = maskTotalsCall ws .totals }) (sym (written-region ws before h .mask-accepted))
 
     all-counted : maskRunsCall ws before .number ≡ 0 → maskRunsCall ws before .count ≡ length runs
     all-counted h = written-region ws before h .count
@@ -115,10 +115,10 @@ abbrev cornerTotals : Totals
 cornerTotals = record { a2 = pos 12; x6 = pos 7308; y6 = pos 24; xx12 = pos 12_720_432; xy24 = pos 14_628; yy12 = pos 48 }
 
 -- The call on the four written runs gives the totals of the mask.
-corner-totals : (i : ℕ) → regionCall cornerRuns i ≡ record { number = 0; index = 0; totals = cornerTotals }
-corner-totals i =
-    ap (λ o. regionCall (take (o .count) (o .list)) i) (sym (worked-corners .longer))
-    ∙ both-calls corners six (ap (λ o. o .number) (worked-corners .longer)) i
+corner-totals : regionCall cornerRuns ≡ record { number = 0; index = 0; totals = cornerTotals }
+corner-totals =
+    ap (λ o. regionCall (take (o .count) (o .list))) (sym (worked-corners .longer))
+    ∙ both-calls corners six (ap (λ o. o .number) (worked-corners .longer))
     ∙ ap (λ (o : Outcome). record { number = o .number; index = 0; totals = o .totals }) (worked-corners .totals)
 
 -- What the call on a whole list answers for the corners of its six cells, added, are the same totals.

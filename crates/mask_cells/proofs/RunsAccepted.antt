@@ -3,14 +3,15 @@ use mathlib.Core.Path.{_≡_, refl, ap}
 use mathlib.Core.Bool.{true, false, not}
 use mathlib.Core.List.{List, [], _∷_}
 use mathlib.Core.Logic.{inl, inr}
-use Prim.Native.Nat.{ℕ, suc, _+_, _/_, _≤_, _<_}
+use Prim.Native.Nat.{ℕ, _+_, _/_, _≤_, _<_}
 use native.Mathlib.Omega.{arith}
 use lib.ListN.{length}
 use borrow.Author.Tests.{lt-ltb, le-ltb, le-leb, eq-eqb, ne-eqb}
 use Rattle.integers.proofs.Flags.{neither}
 use Rattle.cell_ground.specs.Ground.{groundOf}
 use Rattle.cells.specs.declared.Run.{Run}
-use Rattle.cells.specs.RegionCall.{badRun, anyBad, liesAfter, disordered, regionCall, runAt}
+use Rattle.cells.specs.RegionCall.{badRun, liesAfter, disordered, runAt, regionCall}
+use Rattle.cells.proofs.RulePlaces.{none-bad}
 use Rattle.mask_cells.specs.MaskCells.{longestRuns}
 use Rattle.mask_cells.specs.MaskLaws.{Apart, Longest, RunsAccepted}
 use Rattle.mask_cells.proofs.Lengths.{rows-in-grid}
@@ -23,11 +24,6 @@ use Rattle.mask_cells.proofs.RunsCells.{runs-cells}
 longest-good : (ws : List ℕ) (r : Run) → length ws / 16 ≤ 1024 → Longest ws r → badRun r ≡ false
 unfolding badRun
 longest-good ws r h l = neither (neither (le-ltb 1023 (r .row) (omega (arith, l .in-mask))) (ne-eqb (r .length) 0 (λ e. omega (arith, l .nonempty)))) (le-ltb 1024 (r .first + r .length) (l .in-row))
-
-none-bad : (rs : List Run) → ((i : ℕ) → i < length rs → badRun (runAt rs i) ≡ false) → anyBad rs ≡ false
-unfolding anyBad
-none-bad [] good = refl
-none-bad (r ∷ rs) good = neither (good 0 (omega arith)) (none-bad rs (λ i h. good (suc i) (omega arith)))
 
 -- ---- 7
 
@@ -46,7 +42,7 @@ apart-ordered (r ∷ q ∷ rs) (apart, a) = neither (ap not (apart-after r q apa
 
 pub runs-accepted : RunsAccepted
 unfolding regionCall
-runs-accepted ws right few i =
+runs-accepted ws right few =
     let good = none-bad (longestRuns ws) (λ k h. longest-good ws (runAt (longestRuns ws) k) (rows-in-grid (length ws) right) (each-longest ws k h)) in
     let ordered = apart-ordered (longestRuns ws) (longest-in-turn ws) in
     rw (few, good, ordered) (ap (λ cs. record { number = 0; index = 0; totals = groundOf cs }) (runs-cells ws))

@@ -55,6 +55,6 @@ written-region ws before e =
       list = rw call;
       as-long = rw call (length-append rs rest ∙ ap (λ n. length rs + n) (length-drop (length rs) before) ∙ omega arith);
       runs = rw call (take-append-seam rs rest);
-      totals = λ i. rw (call, given) (ap (λ qs. regionCall qs i) (take-append-seam rs rest) ∙ runs-accepted ws right enough i);
+      totals = rw (call, given) (ap regionCall (take-append-seam rs rest) ∙ runs-accepted ws right enough);
       mask-accepted = rw given;
     }

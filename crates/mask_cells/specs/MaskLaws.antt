@@ -118,10 +118,8 @@ RunsAccepted =
     → wrongLength (length ws) ≡ false
     -- and that has at most 4,096 longest runs,
     → tooMany (longestRuns ws) ≡ false
-    -- and for every index that a refusal could give:
-    → (i : ℕ)
     -- the call on runs accepts the longest runs, and its totals are those of the ground under the marked cells.
-    → regionCall (longestRuns ws) i ≡ record { number = 0; index = 0; totals = groundOf (markedCells ws) }
+    → regionCall (longestRuns ws) ≡ record { number = 0; index = 0; totals = groundOf (markedCells ws) }
 
 -- What is claimed of an accepted call of the writer, on a list of the caller's.
 pub record Written (ws : List ℕ) (before : List Run) : Type 0 where
@@ -133,7 +131,7 @@ pub record Written (ws : List ℕ) (before : List Run) : Type 0 where
   -- The written ones are the longest runs,
   pub runs : take (maskRunsCall ws before .count) (maskRunsCall ws before .list) ≡ longestRuns ws
   -- the call on runs accepts them, and its totals are those that the call on the mask gives,
-  pub totals : (i : ℕ) → regionCall (take (maskRunsCall ws before .count) (maskRunsCall ws before .list)) i ≡ record { number = 0; index = 0; totals = maskTotalsCall ws .totals }
+  pub totals : regionCall (take (maskRunsCall ws before .count) (maskRunsCall ws before .list)) ≡ record { number = 0; index = 0; totals = maskTotalsCall ws .totals }
   -- which accepts the mask.
   pub mask-accepted : maskTotalsCall ws .number ≡ 0
 

@@ -2,7 +2,7 @@
 ghost use mathlib.Core.Path.{_≡_};
 ghost use Prim.Native.Nat.{min};
 ghost use lib.ListN.{take};
-ghost use Rattle.cells.specs.RegionCall.{Answers};
+ghost use Rattle.cells.specs.RegionCall.{regionCall, reading};
 use cells::RegionAnswer;
 use cells::Run;
 use cells::region_totals;
@@ -18,7 +18,7 @@ fn within_array(count: usize) -> usize
 // `region_totals` of the first `count` runs of an array, or of all of them if `count` is larger, for callers that hold their runs by value.
 // The array has room for one run more than is allowed.
 pub fn region_totals_of(runs: [Run; 4097], count: usize) -> RegionAnswer
-    ensures { λ r. ⌜ Answers (take count runs) r ⌝ }
+    ensures { λ r. ⌜ reading r ≡ regionCall (take count runs) ⌝ }
 {
     let n = within_array(count);
     region_totals(&runs[..n])

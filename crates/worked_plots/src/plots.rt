@@ -9,7 +9,7 @@ ghost use Rattle.outline.specs.WalkCalls.{closed, newSheet, pointCall, endCall}
 ghost use Rattle.outline_answers.specs.ListAnswer.{reading as listReading};
 ghost use Rattle.outline_answers.specs.WalkAnswers.{pointReading, endReading};
 ghost use Rattle.affine.specs.Answer.{reading as mapReading};
-ghost use Rattle.cells.specs.RegionCall.{Answers};
+ghost use Rattle.cells.specs.RegionCall.{regionCall, reading};
 ghost use Rattle.worked_plots.specs.Plots.{roundSquare, doubling, afterPoints, square, walkedSquare, endAfter, triangle, runOf, handedIn};
 use affine::MapAnswer;
 use cells::RegionAnswer;
@@ -121,7 +121,7 @@ pub(crate) fn sheet_of_squares(earlier: u32) -> EndReply
 
 // One run, of row 0.
 pub(crate) fn run_totals(first: u32, length: u32) -> RegionAnswer
-    ensures { λ r. ⌜ Answers (runOf first length ∷ []) r ⌝ }
+    ensures { λ r. ⌜ reading r ≡ regionCall (runOf first length ∷ []) ⌝ }
 {
     let run = Run {
         row: 0,

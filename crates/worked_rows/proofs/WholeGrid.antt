@@ -32,14 +32,14 @@ unfolding allCells sumsOver rowsFrom sumsFrom
 full-rows y zero = refl
 full-rows y (suc n) = sums-append (cellsOf (run y 0 1024)) (allCells (rowsFrom (suc y) n)) ∙ ap₂ plusSums (full-row y) (full-rows (suc y) n)
 
-accepted-grid : (i : ℕ) → regionCall (rowsFrom 0 1024) i ≡ record { number = 0; index = 0; totals = groundOf (allCells (rowsFrom 0 1024)) }
+accepted-grid : regionCall (rowsFrom 0 1024) ≡ record { number = 0; index = 0; totals = groundOf (allCells (rowsFrom 0 1024)) }
 unfolding rowsFrom badRun anyBad liesAfter disordered tooMany regionCall
-accepted-grid i = refl
+accepted-grid = refl
 
 grid-totals : groundTotals (sumsFrom 0 1024) ≡ outlineTotals (corner 0 0 ∷ corner 1024 0 ∷ corner 1024 1024 ∷ corner 0 1024 ∷ [])
 unfolding sumsFrom openEdges edges sumOver
 grid-totals = refl
 
-whole-grid : (i : ℕ) → regionCall (rowsFrom 0 1024) i ≡ record { number = 0; index = 0; totals = outlineTotals (corner 0 0 ∷ corner 1024 0 ∷ corner 1024 1024 ∷ corner 0 1024 ∷ []) }
+whole-grid : regionCall (rowsFrom 0 1024) ≡ record { number = 0; index = 0; totals = outlineTotals (corner 0 0 ∷ corner 1024 0 ∷ corner 1024 1024 ∷ corner 0 1024 ∷ []) }
 unfolding groundOf
-whole-grid i = accepted-grid i ∙ ap (λ t. record { number = 0; index = 0; totals = t }) (ap groundTotals (full-rows 0 1024) ∙ grid-totals)
+whole-grid = accepted-grid ∙ ap (λ t. record { number = 0; index = 0; totals = t }) (ap groundTotals (full-rows 0 1024) ∙ grid-totals)

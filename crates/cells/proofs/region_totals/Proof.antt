@@ -50,7 +50,7 @@ use Rattle.square_table.proofs.square_sums as square-sums
 use Rattle.square_table.proofs.square_sums.Symbol as square-sums-def
 use Rattle.square_table.proofs.square_sums.Symbol.{name as #square-table·square-sums}
 use Rattle.square_table.proofs.square_sums.Met as square-sums-thm
-use Rattle.cells.specs.RegionCall.{Answers}
+use Rattle.cells.specs.RegionCall.{regionCall, reading}
 use Rattle.cells.specs.declared.Run.{Run}
 use Rattle.cells.specs.declared.RegionAnswer.{RegionAnswer}
 use Rattle.cells.proofs.BigLiteral.{big-lit}
@@ -165,10 +165,10 @@ module _ {M : Type 1} (𝓤 : URA M) (H : Heap 𝓤) (A : Atoms 𝓤) (W : Given
     abbrev TableGives : Val → Item 𝓤
     TableGives u = later (some (λ (r : RegionAnswer). ((‵ (flft κ q) ⊛ ‵ (flft (ν ∷ []) fullShare) ⊛ ‵ ftrue) ⊛ ‵ (R.the-row .own r (u ∷ []))) ⊛ raw (ensured 𝓤 H A totals-by-table.ended (totals-by-table.clauses 𝓤 H A mem run) (κ, (ν ∷ [], tt)) (x, (x₁, tt)) tt r)))
 
-    told-table : (r : RegionAnswer) → ent 𝓤 (ensured 𝓤 H A totals-by-table.ended (totals-by-table.clauses 𝓤 H A mem run) (κ, (ν ∷ [], tt)) (x, (x₁, tt)) tt r) (fact 𝓤 (Answers ys r))
-    told-table r = exE 𝓤 _ (λ ws. snd∗ 𝓤 (sem 𝓤 H A (lasts totals-by-table.ended (κ, (ν ∷ [], tt)) (x, (x₁, tt)) ws)) (fact 𝓤 (Answers ys r)))
+    told-table : (r : RegionAnswer) → ent 𝓤 (ensured 𝓤 H A totals-by-table.ended (totals-by-table.clauses 𝓤 H A mem run) (κ, (ν ∷ [], tt)) (x, (x₁, tt)) tt r) (fact 𝓤 (reading r ≡ regionCall ys))
+    told-table r = exE 𝓤 _ (λ ws. snd∗ 𝓤 (sem 𝓤 H A (lasts totals-by-table.ended (κ, (ν ∷ [], tt)) (x, (x₁, tt)) ws)) (fact 𝓤 (reading r ≡ regionCall ys)))
 
-  exits : (r : RegionAnswer) (u : Val) → Answers ys r → ent 𝓤 (⋆ 𝓤 H A (‵ ftrue ∷ ‵ (flft κ q) ∷ ‵ (R.the-row .own r (u ∷ [])) ∷ [])) (Post u)
+  exits : (r : RegionAnswer) (u : Val) → reading r ≡ regionCall ys → ent 𝓤 (⋆ 𝓤 H A (‵ ftrue ∷ ‵ (flft κ q) ∷ ‵ (R.the-row .own r (u ∷ [])) ∷ [])) (Post u)
   exits r u e =
       qed W (‵ ftrue ∷ ‵ (flft κ q) ∷ ‵ (R.the-row .own r (u ∷ [])) ∷ []) ∵
       suffices ! _ (ends-at 𝓤 H A region-totals.ended stayed (region-totals.clauses 𝓤 H A mem run) W (((κ, tt), (q, tt), tt, (x, tt), (v ∷ [], tt)), tt) u r (tt, tt) (tt, tt)) $ says ! e $
@@ -199,7 +199,7 @@ module _ {M : Type 1} (𝓤 : URA M) (H : Heap 𝓤) (A : Atoms 𝓤) (W : Given
         -- [what the call asks; the lender's part; _5; …; _4; …; _3; …; that _2 dies; _1; …; room for _0; …]
         calls-at ! fm (ByTable 𝓤 H A mem run) known-table (to-table zs ν l₂ γ₁) (and-then ! (load ! (from ! (stop !)) (look ! 9 refl)) (and-then ! (load ! (from ! (stop !)) (look ! 2 refl)) (no-more !))) (λ u.
         use1 W (TableGives zs ν l₂ γ₁ u) (id⊢ 𝓤 _) $ await ! tt $ pick ! (λ r.
-        split ! $ move ! (1 ∷ []) $ use1 W (raw (fact 𝓤 (Answers ys r))) (told-table zs ν l₂ γ₁ r) $ heard ! (Answers ys r) (λ h. split ! $ move ! (1 ∷ []) $
+        split ! $ move ! (1 ∷ []) $ use1 W (raw (fact 𝓤 (reading r ≡ regionCall ys))) (told-table zs ν l₂ γ₁ r) $ heard ! (reading r ≡ regionCall ys) (λ h. split ! $ move ! (1 ∷ []) $
         peeks ! R.the-row (Is R.the-row) (shows 𝓤 H A R.the-row) r (u ∷ []) (λ is′. move ! (1 ∷ []) $ split ! $ move ! (1 ∷ []) $ split ! $
         -- [ν's token; true; runs' token; what the answer owns; the lender's part; _5; …; _4; …; _3; …; that _2 dies; _1; …; room for _0; …]
         land ! (from ! (stop !)) (init ! 14 refl (EL.lawful R.the-type R′.the-laws 𝓤 H A W tt .typed r _ is′ .0)) $

@@ -47,7 +47,7 @@ use denote.Triple.Table.{entered, cited}
 use denote.Triple.Walked.{says, needs, Stays, stay-dropped, walkOf, AllGo, goes-dropped, Walks, ends-at, walked, walk-meets}
 use denote.Exit.{yes}
 use Rattle.column_sums.specs.Annex.{squareSums}
-use Rattle.cells.specs.RegionCall.{emptyRun, Answers}
+use Rattle.cells.specs.RegionCall.{emptyRun, regionCall, reading}
 use Rattle.cells.specs.private.Scan.{noRuns, addRun, answerOf}
 use Rattle.cells.specs.declared.Run.{Run}
 use Rattle.cells.specs.declared.Scan.{Scan}
@@ -107,7 +107,7 @@ module _ {M : Type 1} (𝓤 : URA M) (H : Heap 𝓤) (A : Atoms 𝓤) (W : Given
   abbrev Post : Val → SProp 𝓤
   Post = walkOf 𝓤 H A totals-by-table.ended stayed (totals-by-table.clauses 𝓤 H A mem run) .post (((κ, (κ₂, tt)), (q, (q₂, tt)), tt, x, at), tt)
 
-  exits : (r : RegionAnswer) (v : Val) → Is R.the-row r (v ∷ []) → Answers ys r → ent 𝓤 (⋆ 𝓤 H A (‵ (flft κ q) ∷ ‵ (flft κ₂ q₂) ∷ [])) (Post v)
+  exits : (r : RegionAnswer) (v : Val) → Is R.the-row r (v ∷ []) → reading r ≡ regionCall ys → ent 𝓤 (⋆ 𝓤 H A (‵ (flft κ q) ∷ ‵ (flft κ₂ q₂) ∷ [])) (Post v)
   exits r v is e =
       qed W (‵ (flft κ q) ∷ ‵ (flft κ₂ q₂) ∷ []) ∵
       suffices ! _ (ends-at 𝓤 H A totals-by-table.ended stayed (totals-by-table.clauses 𝓤 H A mem run) W (((κ, (κ₂, tt)), (q, (q₂, tt)), tt, x, at), tt) v r (tt, (tt, tt)) (tt, (tt, tt))) $ says ! e $

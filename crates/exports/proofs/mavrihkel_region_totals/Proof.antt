@@ -38,7 +38,7 @@ use denote.Triple.Walked.{says, Stays, stay-dropped, gave-slice, walkOf, AllGo, 
 use denote.Exit.{yes}
 use Rattle.cells.specs.declared.Run.{Run}
 use Rattle.cells.specs.declared.RegionAnswer.{RegionAnswer}
-use Rattle.cells.specs.RegionCall.{reading, Answers}
+use Rattle.cells.specs.RegionCall.{RegionOutcome, regionCall, reading}
 use Rattle.cells.proofs.Run as T
 use Rattle.cells.proofs.RegionAnswer as R
 use Rattle.cells.proofs.RegionAnswer.Laws as R′
@@ -47,7 +47,7 @@ use Rattle.cells.proofs.region_totals.Symbol as region-totals-def
 use Rattle.cells.proofs.region_totals.Symbol.{name as #cells·region-totals}
 use Rattle.cells.proofs.region_totals.Met as region-totals-thm
 use Rattle.replies.specs.Reply.{Reply}
-use Rattle.region_replies.specs.RegionReply.{regionReply, RegionReplies, indexCapped}
+use Rattle.region_replies.specs.RegionReply.{regionReply, indexCapped}
 use Rattle.region_replies.proofs.IndexLaw.{index-told}
 use Rattle.region_replies.proofs.region_reply as region-reply
 use Rattle.region_replies.proofs.region_reply.Symbol as region-reply-def
@@ -105,8 +105,8 @@ module _ {M : Type 1} (𝓤 : URA M) (H : Heap 𝓤) (A : Atoms 𝓤) (W : Given
       qed W (‵ (flft κ q) ∷ ‵ (ShrSlice (named 0) κ T.the-row .own x (v ∷ [])) ∷ []) ∵
       nothing ! $ move ! (2 ∷ 0 ∷ []) $ fjoin ! $ nothing ! $ move ! (2 ∷ 0 ∷ []) $ join ! $ join ! $ frame ! $ done !
 
-  told-region : (r : RegionAnswer) → ent 𝓤 (ensured 𝓤 H A region-totals.ended (region-totals.clauses 𝓤 H A mem run) (κ, tt) (x, tt) tt r) (fact 𝓤 (Answers ys r))
-  told-region r = exE 𝓤 _ (λ ws. snd∗ 𝓤 (sem 𝓤 H A (lasts region-totals.ended (κ, tt) (x, tt) ws)) (fact 𝓤 (Answers ys r)))
+  told-region : (r : RegionAnswer) → ent 𝓤 (ensured 𝓤 H A region-totals.ended (region-totals.clauses 𝓤 H A mem run) (κ, tt) (x, tt) tt r) (fact 𝓤 (reading r ≡ regionCall ys))
+  told-region r = exE 𝓤 _ (λ ws. snd∗ 𝓤 (sem 𝓤 H A (lasts region-totals.ended (κ, tt) (x, tt) ws)) (fact 𝓤 (reading r ≡ regionCall ys)))
 
   -- what `region_reply` is passed: the answer and the buffer
   abbrev Passed : RegionAnswer → Val → Fml
@@ -121,10 +121,10 @@ module _ {M : Type 1} (𝓤 : URA M) (H : Heap 𝓤) (A : Atoms 𝓤) (W : Given
       fsplit ! $ nothing ! $ move ! (2 ∷ 0 ∷ []) $ fjoin ! $ move ! (1 ∷ 0 ∷ []) $ fjoin ! $ move ! (1 ∷ 0 ∷ []) $ join ! $ frame ! $ done !
 
   -- the call's reply, by the buffer's last list
-  abbrev Told : RegionAnswer → ℕ → List ℤ → Type 0
-  Told r number last = _≡_ {A = Reply} (record { number = number; buffer = last }) (regionReply (indexCapped (reading r)) zs)
+  abbrev Told : RegionOutcome → ℕ → List ℤ → Type 0
+  Told o number last = _≡_ {A = Reply} (record { number = number; buffer = last }) (regionReply o zs)
 
-  exits : (number : ℕ) (w : Val) (last : List ℤ) → RegionReplies ys zs (record { number = number; buffer = last }) → length last ≡ length zs
+  exits : (number : ℕ) (w : Val) (last : List ℤ) → Told (regionCall ys) number last → length last ≡ length zs
       → ent 𝓤 (⋆ 𝓤 H A (Token κ q ∷ Token κ′ q′ ∷ ‵ (finally i64 γ′ last) ∷ ‵ (u32 .own number (w ∷ [])) ∷ [])) (Post w)
   exits number w last e l =
       qed W (Token κ q ∷ Token κ′ q′ ∷ ‵ (finally i64 γ′ last) ∷ ‵ (u32 .own number (w ∷ [])) ∷ []) ∵
@@ -143,7 +143,7 @@ module _ {M : Type 1} (𝓤 : URA M) (H : Heap 𝓤) (A : Atoms 𝓤) (W : Given
         -- [what the call asks; out's token; what out owns; _5; …; _4; …; _3; …; _2; …; _1; …; room for _0; …]
         calls-at ! fm (Region 𝓤 H A mem run) known-region to-region (and-then ! (load ! (from ! (stop !)) (look ! 11 refl)) (no-more !)) (λ u.
         use1 W (later (some (λ (r : RegionAnswer). (Token κ q ⊛ ‵ (R.the-row .own r (u ∷ []))) ⊛ raw (ensured 𝓤 H A region-totals.ended (region-totals.clauses 𝓤 H A mem run) (κ, tt) (x, tt) tt r)))) (id⊢ 𝓤 _) $ await ! tt $ pick ! (λ r.
-        split ! $ move ! (1 ∷ []) $ use1 W (raw (fact 𝓤 (Answers ys r))) (told-region r) $ heard ! (Answers ys r) (λ h. split ! $ move ! (1 ∷ []) $
+        split ! $ move ! (1 ∷ []) $ use1 W (raw (fact 𝓤 (reading r ≡ regionCall ys))) (told-region r) $ heard ! (reading r ≡ regionCall ys) (λ h. split ! $ move ! (1 ∷ []) $
         peeks ! R.the-row (Is R.the-row) (shows 𝓤 H A R.the-row) r (u ∷ []) (λ is.
         -- [what the answer owns; runs' token; out's token; what out owns; _5; …; _4; …; _3; …; _2; …; _1; …; room for _0; …]
         land ! (from ! (stop !)) (init ! 8 refl (EL.lawful R.the-type R′.the-laws 𝓤 H A W tt .typed r _ is .0)) $
@@ -154,14 +154,14 @@ module _ {M : Type 1} (𝓤 : URA M) (H : Heap 𝓤) (A : Atoms 𝓤) (W : Given
         calls-at ! fm (Put 𝓤 H A mem run) known-put (to-put r u) (and-then ! (load ! (from ! (stop !)) (look ! 7 refl)) (and-then ! (load ! (from ! (stop !)) (look ! 3 refl)) (no-more !))) (λ w.
         use1 W (later (some (λ (number : ℕ). (Token κ′ q′ ⊛ ‵ (u32 .own number (w ∷ []))) ⊛ raw (ensured 𝓤 H A region-reply.ended (region-reply.clauses 𝓤 H A mem run) (κ′, tt) (r, (x′, tt)) tt number)))) (id⊢ 𝓤 _) $ await ! tt $ pick ! (λ number.
         -- what `region_reply` ensures, at some last list
-        split ! $ move ! (1 ∷ []) $ use1 W (some (λ (last : Unit {0} × (List ℤ × Unit {0})). ‵ (lasts region-reply.ended (κ′, tt) (r, (x′, tt)) last) ⊛ raw (fact 𝓤 (Told r number (last .1 .0))))) (id⊢ 𝓤 _) $ pick ! (λ last.
-        split ! $ move ! (1 ∷ []) $ heard ! (Told r number (last .1 .0)) (λ e. fsplit ! $ move ! (1 ∷ []) $ fsplit ! $ move ! (1 ∷ 2 ∷ []) $ fjoin ! $ move ! (1 ∷ []) $ fsplit ! $ move ! (1 ∷ []) $ feqL ! (λ l.
+        split ! $ move ! (1 ∷ []) $ use1 W (some (λ (last : Unit {0} × (List ℤ × Unit {0})). ‵ (lasts region-reply.ended (κ′, tt) (r, (x′, tt)) last) ⊛ raw (fact 𝓤 (Told (indexCapped (reading r)) number (last .1 .0))))) (id⊢ 𝓤 _) $ pick ! (λ last.
+        split ! $ move ! (1 ∷ []) $ heard ! (Told (indexCapped (reading r)) number (last .1 .0)) (λ e. fsplit ! $ move ! (1 ∷ []) $ fsplit ! $ move ! (1 ∷ 2 ∷ []) $ fjoin ! $ move ! (1 ∷ []) $ fsplit ! $ move ! (1 ∷ []) $ feqL ! (λ l.
         -- [the last list; …; the token and the result; true; runs' token; _5; …]
         move ! (2 ∷ []) $ split ! $ move ! (1 ∷ []) $ peeks ! u32 (Is u32) (shows 𝓤 H A u32) number (w ∷ []) (λ is′.
         land ! (from ! (stop !)) (init ! 16 refl (uint-lawful 𝓤 H A W w32 .typed number _ is′ .0)) $
         returns ! (look ! 16 refl) $ forget ! 6 refl $ forget ! 8 refl $ forget ! 10 refl $ forget ! 12 refl $ forget ! 14 refl $ forget ! 16 refl $
         move ! (16 ∷ 17 ∷ []) $ free1 ! $ move ! (14 ∷ 15 ∷ []) $ free1 ! $ move ! (12 ∷ 13 ∷ []) $ free1 ! $ move ! (10 ∷ 11 ∷ []) $ free1 ! $ move ! (8 ∷ 9 ∷ []) $ free1 ! $ move ! (6 ∷ 7 ∷ []) $ free1 ! $ free0 ! $
-        keep ! (5 ∷ 1 ∷ 2 ∷ 0 ∷ []) $ by ! (exits number w (last .1 .0) (record { answer = r; allowed = h; told = e ∙ ap (λ o. regionReply o zs) (index-told ys r h) }) l)))))))))))))))))
+        keep ! (5 ∷ 1 ∷ 2 ∷ 0 ∷ []) $ by ! (exits number w (last .1 .0) (e ∙ ap (λ o. regionReply o zs) (ap indexCapped h ∙ index-told ys)) l)))))))))))))))))
 
 module _ {M : Type 1} (𝓤 : URA M) (H : Heap 𝓤) (A : Atoms 𝓤) (W : Given 𝓤 H A) (mem : Memory → SProp 𝓤) (run : Routine → Fun 𝓤) (𝓣 : Tables 𝓤 H) (known-region : Triple 𝓤 (𝓣 .C #cells·region-totals) (Region 𝓤 H A mem run)) (known-put : Triple 𝓤 (𝓣 .C #region-replies·region-reply) (Put 𝓤 H A mem run)) where
   region-call-walks : Walks 𝓤 H A region-call.ended stayed (WpFn 𝓤 H (𝓣 .C) (𝓣 .Λ) code.function) (region-call.clauses 𝓤 H A mem run)

@@ -46,7 +46,7 @@ use denote.Triple.Spec.{Meets, tripleOf}
 use denote.Triple.Table.{entered, cited}
 use denote.Triple.Walked.{says, Stays, stay-dropped, walkOf, goes-dropped, Walks, ends-at, walked, walk-meets}
 use denote.Exit.{yes}
-use Rattle.cells.specs.RegionCall.{Answers}
+use Rattle.cells.specs.RegionCall.{regionCall, reading}
 use Rattle.cells.specs.declared.Run.{Run}
 use Rattle.cells.specs.declared.RegionAnswer.{RegionAnswer}
 use Rattle.cells.proofs.Run as T
@@ -179,10 +179,10 @@ module _ {M : Type 1} (𝓤 : URA M) (H : Heap 𝓤) (A : Atoms 𝓤) (W : Given
       qed W (‵ (flft (ν ∷ []) fullShare) ∷ ‵ (ShrSlice (named 0) (ν ∷ []) T.the-row .own (lent b γ) (at b)) ∷ []) ∵
       nothing ! $ move ! (2 ∷ 0 ∷ []) $ fjoin ! $ nothing ! $ move ! (2 ∷ 0 ∷ []) $ join ! $ join ! $ frame ! $ done !
 
-  told-region : (ν b : ℕ) (γ : GName) (r : RegionAnswer) → ent 𝓤 (ensured 𝓤 H A region-totals.ended (region-totals.clauses 𝓤 H A mem run) (ν ∷ [], tt) (lent b γ, tt) tt r) (fact 𝓤 (Answers ys r))
-  told-region ν b γ r = exE 𝓤 _ (λ ws. snd∗ 𝓤 (sem 𝓤 H A (lasts region-totals.ended (ν ∷ [], tt) (lent b γ, tt) ws)) (fact 𝓤 (Answers ys r)))
+  told-region : (ν b : ℕ) (γ : GName) (r : RegionAnswer) → ent 𝓤 (ensured 𝓤 H A region-totals.ended (region-totals.clauses 𝓤 H A mem run) (ν ∷ [], tt) (lent b γ, tt) tt r) (fact 𝓤 (reading r ≡ regionCall ys))
+  told-region ν b γ r = exE 𝓤 _ (λ ws. snd∗ 𝓤 (sem 𝓤 H A (lasts region-totals.ended (ν ∷ [], tt) (lent b γ, tt) ws)) (fact 𝓤 (reading r ≡ regionCall ys)))
 
-  exits : (r : RegionAnswer) (v : Val) → Is R.the-row r (v ∷ []) → Answers ys r → ent 𝓤 (emp 𝓤) (Post v)
+  exits : (r : RegionAnswer) (v : Val) → Is R.the-row r (v ∷ []) → reading r ≡ regionCall ys → ent 𝓤 (emp 𝓤) (Post v)
   exits r v is e =
       qed W [] ∵ suffices ! _ (ends-at 𝓤 H A region-totals-of.ended stayed (region-totals-of.clauses 𝓤 H A mem run) W ((tt, tt, tt, given .0, given .1), tt) v r (tt, (tt, tt)) (tt, (tt, tt))) $ says ! e $
       nothing ! $ frame ! $ nothing ! $ nothing ! $ fjoin ! $ nothing ! $ fjoin ! $ frame ! $ owned ! R.the-row (Is R.the-row) (EL.makes R.the-type R′.the-plain 𝓤 H A) r _ is $ done !
@@ -213,7 +213,7 @@ module _ {M : Type 1} (𝓤 : URA M) (H : Heap 𝓤) (A : Atoms 𝓤) (W : Given
         -- [what the call asks; the lender's part; the other runs; _6; …; _5; …; _4; …; that _3 dies; _2; …; _1; …; room for _0; …]
         calls-at ! fm (Region 𝓤 H A mem run) known-region (to-region ν l₃ γ) (and-then ! (load ! (from ! (stop !)) (look ! 3 refl)) (no-more !)) (λ v.
         use1 W (later (some (λ (r : RegionAnswer). ((‵ (flft (ν ∷ []) fullShare) ⊛ ‵ ftrue) ⊛ ‵ (R.the-row .own r (v ∷ []))) ⊛ raw (ensured 𝓤 H A region-totals.ended (region-totals.clauses 𝓤 H A mem run) (ν ∷ [], tt) (lent l₃ γ, tt) tt r)))) (id⊢ 𝓤 _) $ await ! tt $ pick ! (λ r.
-        split ! $ move ! (1 ∷ []) $ use1 W (raw (fact 𝓤 (Answers ys r))) (told-region ν l₃ γ r) $ heard ! (Answers ys r) (λ h. split ! $ move ! (1 ∷ []) $
+        split ! $ move ! (1 ∷ []) $ use1 W (raw (fact 𝓤 (reading r ≡ regionCall ys))) (told-region ν l₃ γ r) $ heard ! (reading r ≡ regionCall ys) (λ h. split ! $ move ! (1 ∷ []) $
         peeks ! R.the-row (Is R.the-row) (shows 𝓤 H A R.the-row) r (v ∷ []) (λ is. toss ! $ split ! $
         -- [ν's token; true; the lender's part; the other runs; _6; …; _5; …; _4; …; that _3 dies; _2; …; _1; …; room for _0; …]
         land ! (from ! (stop !)) (init ! 15 refl (EL.lawful R.the-type R′.the-laws 𝓤 H A W tt .typed r _ is .0)) $

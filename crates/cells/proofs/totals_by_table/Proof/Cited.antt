@@ -33,7 +33,7 @@ use denote.Triple.Clauses.{ensured, lasts}
 use denote.Triple.Spec.{tripleOf}
 use denote.Triple.Walked.{says}
 use Rattle.column_sums.specs.Annex.{squareSums}
-use Rattle.cells.specs.RegionCall.{emptyRun, Answers}
+use Rattle.cells.specs.RegionCall.{emptyRun, regionCall, reading}
 use Rattle.cells.specs.private.Scan.{noRuns, addRun, answerOf, SumsSmall, HasRoom}
 use Rattle.cells.specs.declared.Run.{Run}
 use Rattle.cells.specs.declared.Scan.{Scan}
@@ -167,5 +167,5 @@ module _ (ys : List Run) where
   pub all-small : length ys ≤ 4096 → (s : State ys) → length ys ≤ s .i → SumsSmall (s .scan .found)
   all-small few s l = sums-small ys (rw (take-all (s .i) ys l) at (s .stands)) few
 
-  pub at-end : length ys ≤ 4096 → (s : State ys) → length ys ≤ s .i → Answers ys (answerOf (s .scan .found))
+  pub at-end : length ys ≤ 4096 → (s : State ys) → length ys ≤ s .i → reading (answerOf (s .scan .found)) ≡ regionCall ys
   at-end few s l = answered ys (rw (take-all (s .i) ys l) at (s .stands)) few
