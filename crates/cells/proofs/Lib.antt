@@ -1,7 +1,7 @@
 pub mod RulePlaces
 pub mod RegionCases
-pub mod LowestIndex
 pub mod RefusalLaw
+pub mod LowestIndex
 pub mod Tests
 pub mod GridLaws
 pub mod ClosedSums
@@ -13,7 +13,7 @@ pub mod UniqueCells
 pub mod WorkedRun
 pub mod RunLimits
 pub mod WorkedIndices
-pub mod OnlyAnswers
+mod OnlyAnswers
 mod RegionUses
 mod IndexUses
 mod BigLiteral

@@ -14,7 +14,7 @@ use Rattle.cells.proofs.WorkedIndices.{twoDisordered, thenTwoBad, lowes
 abbrev Only : List Run → RegionAnswer → Type 0
 Only rs a = (b : RegionAnswer) → reading b ≡ regionCall rs → b ≡ a
 
-pub only-accepted : Only severalRuns (Accepted severalTotals)
+only-accepted : Only severalRuns (Accepted severalTotals)
 only-accepted b e = reading-one-to-one b (Accepted severalTotals) (e ∙ accepted .several-runs)
 
 only-six : Only thenTwoBad (BadRun 3)
