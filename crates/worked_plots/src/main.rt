@@ -1,4 +1,4 @@
-// Document 01, "Plots worked by hand": the plots that carry no ✱, and rings, masks, compared walks, square sums and moves of document 02, run through the proved functions. Each
+// Document 01, "Plots worked by hand": the plots that carry no ✱, and rings, masks, compared walks, square sums, moves and mended runs of document 02, run through the proved functions. Each
 // prints a row: label, what was asked, number of the refusal (0 where accepted) and values, separated by tabs, as second/worked.py prints them too. To read a square sum
 // refuses nothing, so its row has no number. The plots marked ✱ are rows of worked_rows/specs/Rows.antt.
 ghost use Prim.Native.Nat.{_≤_};
@@ -9,6 +9,7 @@ mod mask_rows;
 mod move_rows;
 mod plots;
 mod ring_rows;
+mod run_rows;
 mod show;
 
 use outline::Position;
@@ -123,4 +124,5 @@ fn main() {
     run_row(0, 1);
     run_row(0, 1024);
     move_rows::move_rows();
+    run_rows::run_rows();
 }

@@ -1,5 +1,6 @@
 -- Document 01, "Plots worked by hand": the definitions give the figures of every row of the one list, by computation.
 use mathlib.Core.Path.{refl}
+use Rattle.integers.specs.Search.{firstWhere}
 use Rattle.outline.specs.EdgeSums.{openEdges, edges, sumOver, over, exceed}
 use Rattle.outline.specs.ListCall.{points, numbers, outside, anyOutside, wrongLength, listCall}
 use Rattle.outline.specs.MapCall.{disallowed, mapCall}
@@ -15,10 +16,11 @@ use Rattle.cell_ground.specs.Ground.{groundOf}
 use Rattle.cells.specs.RunCells.{cellsFrom, cellsOf, allCells}
 use Rattle.cells.specs.RegionCall.{badRun, anyBad, liesAfter, disordered, tooMany, regionCall}
 use Rattle.worked_rows.specs.Rows.{holds, rows, ringRows, walkRows, moveRows, errorRows}
+use Rattle.worked_rows.specs.RunRows.{mendedRows}
 
 pub worked : All holds rows
 unfolding openEdges edges sumOver over exceed points numbers outside anyOutside wrongLength listCall disallowed mapCall neighbours canCut cutOnce cutAll isCentre firstCentre centre signedBy outlineCentroidCall cellsFrom cellsOf allCells sumsOver groundOf badRun anyBad disordered tooMany regionCall holds
-worked = (refl, (refl, (refl, (refl, (refl, (refl, (refl, (refl, (refl, (refl, (refl, (λ index. refl, (λ index. refl, tt)))))))))))))
+worked = (refl, (refl, (refl, (refl, (refl, (refl, (refl, (refl, (refl, (refl, (refl, (refl, (refl, tt)))))))))))))
 
 -- The rings of document 02, CR 3.
 pub ring-rows : All holds ringRows
@@ -35,7 +37,12 @@ pub move-rows : All holds moveRows
 unfolding openEdges edges sumOver over exceed points numbers outside anyOutside wrongLength listCall disallowed mapCall isCentre firstCentre centre signedBy outlineCentroidCall holds
 move-rows = (refl, (refl, (refl, (refl, (refl, (refl, (refl, (refl, (refl, (refl, tt))))))))))
 
+-- The mended list of document 02, CR 8.
+pub mended-rows : All holds mendedRows
+unfolding firstWhere cellsFrom cellsOf allCells sumsOver groundOf badRun anyBad liesAfter disordered tooMany regionCall holds
+mended-rows = (refl, (refl, (refl, (refl, (refl, (refl, tt))))))
+
 -- The rows for "Errors a surveyor would not notice".
 pub error-rows : All holds errorRows
 unfolding openEdges edges sumOver over exceed points numbers outside anyOutside wrongLength listCall disallowed mapCall isCentre firstCentre centre signedBy outlineCentroidCall cellsFrom cellsOf allCells sumsOver groundOf badRun anyBad liesAfter disordered tooMany regionCall squaredDistance leastOf greatestOf toNearest squaredHausdorff comparisonNumber figuresCall holds
-error-rows = (refl, (refl, (refl, (refl, (λ index. refl, (λ index. refl, (λ index. refl, (refl, tt))))))))
+error-rows = (refl, (refl, (refl, (refl, (refl, (refl, (refl, (refl, tt))))))))

@@ -1,5 +1,5 @@
 -- Document 01, "Plots worked by hand": the plots marked ✱ as one list of rows, each what is asked and the figures that are answered, the run's as document 02,
--- CR 2, has them; the rings of document 02, CR 3, its two walkers, CR 5, and its moves, CR 7; and rows for "Errors a surveyor would not notice".
+-- CR 2, has them; the rings of document 02, CR 3, its two walkers, CR 5, and its moves, CR 7 (its runs, CR 8, stand in RunRows); and rows for "Errors a surveyor would not notice".
 use Prim.Native.Nat.{ℕ}
 use mathlib.Core.Path.{_≡_}
 use mathlib.Core.Bool.{true, false}
@@ -63,7 +63,7 @@ walkedRing g = after (from closed) (ringCalls g) .walk
 abbrev endOf : Ring → Outcome
 endOf g = let e = endCall (walkedRing g) newSheet in record { number = e .number; totals = e .totals }
 
--- The definitions give the row's figures. A region's are the same whichever index stands for the one that document 01 leaves open.
+-- The definitions give the row's figures.
 unfoldable pub holds : Row → Type 0
 holds (list ps answer) = listCall (numbers ps) ≡ answer
 holds (centre ps answer) = outlineCentroidCall (totalsOf ps) ≡ answer
@@ -75,8 +75,8 @@ holds (ring g answer) = endOf g ≡ answer
 holds (sheet gs answer) = sheetAfter newSheet (map walkedRing gs) ≡ answer
 holds (figures first second answer) = figuresCall first second ≡ answer
 holds (part first second answer) = partOf first second ≡ answer
-holds (region rs answer) = (index : ℕ) → regionCall rs index ≡ answer
-holds (regionCentre rs answer) = (index : ℕ) → outlineCentroidCall (regionCall rs index .totals) ≡ answer
+holds (region rs answer) = regionCall rs ≡ answer
+holds (regionCentre rs answer) = outlineCentroidCall (regionCall rs .totals) ≡ answer
 
 -- ---- what is asked
 
@@ -114,13 +114,13 @@ shortRun = record { row = 3; first = 2; length = 3 }
 
 -- ---- what is answered
 
-abbrev totals : ℤ → ℤ → ℤ → ℤ → ℤ → ℤ → Totals
+abbrev pub totals : ℤ → ℤ → ℤ → ℤ → ℤ → ℤ → Totals
 totals a2 x6 y6 xx12 xy24 yy12 = record { a2 = a2; x6 = x6; y6 = y6; xx12 = xx12; xy24 = xy24; yy12 = yy12 }
 
 abbrev centreAt : ℤ → ℤ → CentroidOutcome
 centreAt x y = record { number = 0; x = x; y = y }
 
-abbrev regionOf : Totals → RegionOutcome
+abbrev pub regionOf : Totals → RegionOutcome
 regionOf t = record { number = 0; index = 0; totals = t }
 
 -- ---- the rows marked ✱, in document 01's order

@@ -1,0 +1,76 @@
+// A list of five runs that is mended from the top, document 02, CR 8, each state of it a row.
+ghost use mathlib.Core.Path.{_≡_};
+ghost use mathlib.Core.List.{[], _∷_};
+ghost use Rattle.cells.specs.RegionCall.{regionCall, reading};
+use crate::show::end_row;
+use crate::show::show_label;
+use crate::show::show_natural;
+use crate::show::show_totals;
+use cells::RegionAnswer;
+use cells::Run;
+use region_array::region_totals_of;
+use region_replies::index_of_region;
+use region_replies::totals_of_region;
+
+// Five runs.
+fn region_of_five(a: Run, b: Run, c: Run, d: Run, e: Run) -> RegionAnswer
+    ensures { λ r. ⌜ reading r ≡ regionCall (a ∷ b ∷ c ∷ d ∷ e ∷ []) ⌝ }
+{
+    let mut runs = [a; 4097];
+    runs[1] = b;
+    runs[2] = c;
+    runs[3] = d;
+    runs[4] = e;
+    region_totals_of(runs, 5)
+}
+
+fn show_run(run: Run) {
+    show_natural(run.row as u64);
+    show_natural(run.first as u64);
+    show_natural(run.length as u64);
+}
+
+// Asked: the five runs. Answered: number, index, six totals.
+fn runs_row(a: Run, b: Run, c: Run, d: Run, e: Run) {
+    let answer = region_of_five(a, b, c, d, e);
+    show_label(b"runs");
+    show_run(a);
+    show_run(b);
+    show_run(c);
+    show_run(d);
+    show_run(e);
+    show_natural(answer.number() as u64);
+    show_natural(index_of_region(answer) as u64);
+    show_totals(totals_of_region(answer));
+    end_row();
+}
+
+fn run_of(row: u32, first: u32, length: u32) -> Run {
+    Run { row, first, length }
+}
+
+// Runs 1 and 2 break 7, runs 3 and 4 break 6. The run at the index is mended, until the list is accepted.
+pub(crate) fn run_rows() {
+    let sound = run_of(5, 0, 3);
+    let overlapping = run_of(5, 2, 1);
+    let lower = run_of(4, 0, 1);
+    let outside = run_of(1024, 0, 1);
+    let empty = run_of(6, 0, 0);
+    runs_row(sound, overlapping, lower, outside, empty);
+    runs_row(sound, overlapping, lower, run_of(7, 4, 1), empty);
+    runs_row(sound, overlapping, lower, run_of(7, 4, 1), run_of(8, 0, 2));
+    runs_row(
+        sound,
+        run_of(5, 3, 1),
+        lower,
+        run_of(7, 4, 1),
+        run_of(8, 0, 2),
+    );
+    runs_row(
+        sound,
+        run_of(5, 3, 1),
+        run_of(6, 0, 1),
+        run_of(7, 4, 1),
+        run_of(8, 0, 2),
+    );
+}
