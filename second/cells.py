@@ -1,4 +1,5 @@
-"""Cells, runs and regions: document 01's rules, and document 02's second request for what they answer.
+"""Cells, runs and regions: document 01's rules; document 02's CR 2 for what they answer, and CR 8 for the run that
+a refusal names.
 
 A cell is its ground: cell (x, y) is the square from (x, y) to (x+1, y+1).  Cells answer
 the outline's six totals of the ground under them, so here each cell is an outline of four
@@ -56,20 +57,28 @@ def lies_after(run, earlier):
         run.row == earlier.row and run.first >= earlier.first + earlier.length)
 
 
-def region_totals(runs):
-    """Totals of a cell region: (number, allowed indices, totals).  Order 8, 6, 7.
+def breaking_6(runs):
+    """The indices of the runs that break 6, in order: row over 1,023, length 0, or first column plus length over 1,024."""
+    return [index for index, run in enumerate(runs)
+            if run.row > GRID_SIDE - 1 or run.length == 0 or run.first + run.length > GRID_SIDE]
 
-    With 6 and 7 any run that breaks the rule may be named, so a set of
-    indices is answered.  Otherwise it holds 0 alone.
+
+def breaking_7(runs):
+    """The indices of the runs that break 7, in order: each that does not lie after the run before it, so never the first."""
+    return [index for index in range(1, len(runs)) if not lies_after(runs[index], runs[index - 1])]
+
+
+def region_totals(runs):
+    """Totals of a cell region: (number, index, totals).  Order 8, 6, 7.
+
+    The index given with 6 or 7 is the lowest of a run that breaks that rule (document 02, CR 8),
+    and with 7 that is the later run of a pair.  Otherwise it is 0.
     """
     if len(runs) > MOST_RUNS:
-        return 8, {0}, ZERO_TOTALS
-    outside = {index for index, run in enumerate(runs)
-               if run.row > GRID_SIDE - 1 or run.length == 0 or run.first + run.length > GRID_SIDE}
+        return 8, 0, ZERO_TOTALS
+    outside, out_of_order = breaking_6(runs), breaking_7(runs)
     if outside:
-        return 6, outside, ZERO_TOTALS
-    out_of_order = {index for index in range(1, len(runs))
-                    if not lies_after(runs[index], runs[index - 1])}
+        return 6, min(outside), ZERO_TOTALS
     if out_of_order:
-        return 7, out_of_order, ZERO_TOTALS
-    return ACCEPTED, {0}, ground_totals((range(run.first, run.first + run.length), run.row) for run in runs)
+        return 7, min(out_of_order), ZERO_TOTALS
+    return ACCEPTED, 0, ground_totals((range(run.first, run.first + run.length), run.row) for run in runs)

@@ -2,7 +2,7 @@
 corner cases of its rules, and its laws on made-up outlines; those of islands and
 holes are in selfcheck_rings.py, those of cells and masks in selfcheck_cells.py, those of
 two walkers in selfcheck_walkers.py, those of the annex in selfcheck_annex.py, those of
-moving twice in selfcheck_moves.py.
+moving twice in selfcheck_moves.py, those of the run that a refusal names in selfcheck_runs.py.
 
 Runnable; prints what fails and exits 1, else prints how many checks passed.
 """
@@ -24,6 +24,7 @@ from selfcheck_cells import check_mask_corners, check_mask_laws, check_region_co
 from selfcheck_moves import check_formulas, check_move_corners, check_outline_moved_twice, check_shifted_centre
 from selfcheck_moves import check_shifted_outline, check_three_calls, check_worked_moves, check_wrong_compositions
 from selfcheck_rings import check_end_order, check_kinds, check_ring_laws, check_turns, check_worked_rings
+from selfcheck_runs import check_fronts, check_worked_lists
 from selfcheck_walkers import check_refused_pair, check_walker_corners, check_walker_laws, check_worked_walks
 from worked import numbers_of, walked
 
@@ -189,6 +190,7 @@ if __name__ == "__main__":
     check_worked_moves()
     check_move_corners()
     check_wrong_compositions()
+    check_worked_lists()
     made_up = random.Random(1)
     for _ in range(200):
         reach = made_up.choice([2, 30, 500, 2000])
@@ -207,6 +209,7 @@ if __name__ == "__main__":
         check_formulas(made_up)
         check_three_calls(made_up)
         check_shifted_centre(made_up)
+    check_fronts(made_up)
     for failure in failed:
         print(failure)
     print(f"{len(passed)} checks passed, {len(failed)} failed")

@@ -1,5 +1,5 @@
-"""The rows of "Plots worked by hand" in document 01 that carry no ✱, then rings, masks, pairs of walks, square sums and
-moves of document 02, one line each.
+"""The rows of "Plots worked by hand" in document 01 that carry no ✱, then rings, masks, pairs of walks, square sums,
+moves and runs of document 02, one line each.
 
 Fields are separated by tabs: label, what was asked, refusal number (0 if accepted), values.
 Reading a square sum refuses nothing, so its row has no refusal number.
@@ -27,6 +27,11 @@ RECORD_BEFORE = Run(row=7, first=8, length=9)
 
 # Another walk of the rectangle, with one point more.
 OTHER_WALK = [(2, 0), (10, 4), (9, 8), (1, 5), (0, 4)]
+
+# The first run is sound, the next two break 7, the last two break 6, and the last one breaks 7 too.
+FIVE_RUNS = [Run(5, 0, 3), Run(5, 2, 1), Run(4, 0, 1), Run(1024, 0, 1), Run(6, 0, 0)]
+# The order in which they are mended: the index of a run, and the run that takes its place.
+MENDED_RUNS = ((3, Run(7, 4, 1)), (4, Run(8, 0, 2)), (1, Run(5, 3, 1)), (2, Run(6, 0, 1)))
 
 
 def numbers_of(points):
@@ -76,8 +81,8 @@ def sheet_row(earlier):
 
 def run_row(first, length):
     """One run, of row 0.  Asked: first column, length.  Answered: number, index, six totals."""
-    number, indices, totals = region_totals([Run(row=0, first=first, length=length)])
-    return ["run", first, length, number, *indices, *totals]
+    number, index, totals = region_totals([Run(row=0, first=first, length=length)])
+    return ["run", first, length, number, index, *totals]
 
 
 def walk_row(count, a2):
@@ -214,6 +219,21 @@ def move_rows():
         yield move_once_row(composed(first, second))
 
 
+def mended_lists():
+    """The five runs as they are, then with one more of them mended each time."""
+    runs = FIVE_RUNS
+    yield runs
+    for index, mended in MENDED_RUNS:
+        runs = [*runs[:index], mended, *runs[index + 1:]]
+        yield runs
+
+
+def runs_row(runs):
+    """A list of runs.  Asked: row, first column and length of each.  Answered: number, index, six totals."""
+    number, index, totals = region_totals(runs)
+    return ["runs", *numbers_of(runs), number, index, *totals]
+
+
 def rows():
     """The fields of every row."""
     yield limit_row(2000)
@@ -233,6 +253,7 @@ def rows():
     yield from compare_rows()
     yield from annex_rows()
     yield from move_rows()
+    yield from map(runs_row, mended_lists())
 
 
 if __name__ == "__main__":

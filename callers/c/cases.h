@@ -1,4 +1,4 @@
-/* Cases from standard input, for masks.c and walks.c. */
+/* Cases from standard input, for masks.c, runs.c and walks.c. */
 #ifndef CASES_H
 #define CASES_H
 

@@ -1,6 +1,6 @@
 /*
- * Document 01's rectangle and unit square, and two walks, runs and masks as document 02 has them, through mavrihkel.h; each refusal once, of two walks in every order, and a buffer that is too short.
- * Totals of cells are also compared with those that an independent loop takes cell by cell. Ends with 1 if an answer is wrong.
+ * Document 01's rectangle and unit square, and two walks, runs and masks as document 02 has them, through mavrihkel.h; each refusal once, of two walks in every order, and of runs where several are
+ * wrong; a buffer that is too short. Totals of cells are also compared with those that an independent loop takes cell by cell. Ends with 1 if an answer is wrong.
  */
 #include <inttypes.h>
 #include <stdio.h>
@@ -237,6 +237,8 @@ int main(void)
     const struct mavrihkel_run outer_columns[] = {{0, 0, 1}, {0, 1023, 1}, {1, 512, 512}, {1023, 0, 1024}};
     const struct mavrihkel_run overlapping[] = {{3, 2, 3}, {3, 4, 1}};
     const struct mavrihkel_run without_cells[] = {{3, 2, 3}, {3, 4, 1}, {5, 0, 0}};
+    /* The first run is sound, the next two break 7, the last two break 6. */
+    const struct mavrihkel_run five_runs[] = {{5, 0, 3}, {5, 2, 1}, {4, 0, 1}, {1024, 0, 1}, {6, 0, 0}};
     static struct mavrihkel_run many[4097];
     const int64_t one_run_totals[] = {6, 63, 63, 468, 882, 444, 0}, one_run_centre[] = {4, 4};
     const int64_t sound_totals[] = {12, 108, 138, 864, 1560, 1080, 0}, sound_centre[] = {3, 4};
@@ -244,6 +246,7 @@ int main(void)
     const int64_t outer_totals[] = {3076, 5511168, 6292998, INT64_C(8065634312), INT64_C(12892778496), INT64_C(12872337416), 0}, outer_centre[] = {597, 682};
     const int64_t index_1[] = {0, 0, 0, 0, 0, 0, 1};
     const int64_t index_2[] = {0, 0, 0, 0, 0, 0, 2};
+    const int64_t index_3[] = {0, 0, 0, 0, 0, 0, 3};
     const int64_t zeros[MAVRIHKEL_REGION] = {0};
 
     expect("rectangle", mavrihkel_outline_totals(rectangle, LENGTH(rectangle), fresh(), ROOM), 0, rectangle_totals, MAVRIHKEL_TOTALS);
@@ -267,6 +270,8 @@ int main(void)
     expect_region("no runs", sound, 0, zeros, zeros);
     expect("run without cells", mavrihkel_region_totals(without_cells, LENGTH(without_cells), fresh(), ROOM), 6, index_2, MAVRIHKEL_REGION);
     expect("overlapping runs", mavrihkel_region_totals(overlapping, LENGTH(overlapping), fresh(), ROOM), 7, index_1, MAVRIHKEL_REGION);
+    expect("four of five runs wrong", mavrihkel_region_totals(five_runs, LENGTH(five_runs), fresh(), ROOM), 6, index_3, MAVRIHKEL_REGION);
+    expect("without the last two", mavrihkel_region_totals(five_runs, LENGTH(five_runs) - 2, fresh(), ROOM), 7, index_1, MAVRIHKEL_REGION);
     expect("4,097 runs", mavrihkel_region_totals(many, LENGTH(many), fresh(), ROOM), 8, zeros, MAVRIHKEL_REGION);
 
     expect("room for five", mavrihkel_outline_totals(square, LENGTH(square), fresh(), MAVRIHKEL_TOTALS - 1), MAVRIHKEL_SHORT_BUFFER, NULL, 0);

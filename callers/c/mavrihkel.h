@@ -3,7 +3,7 @@
  *
  * Each call answers a number: 0 where it is accepted, else that of document 01's or 02's refusal, named at each call, the first that applies in the order given. It writes its values to the
  * front of `out`, zeros with every refusal but for the index of a run, and nothing behind them. Where `out_length` is less than the number of its values, it writes nothing, to no list either, and
- * answers MAVRIHKEL_SHORT_BUFFER. That much is proved of the library, for every list, number and buffer; that these declarations fit it is tested (check.c, masks.c, walks.c).
+ * answers MAVRIHKEL_SHORT_BUFFER. That much is proved of the library, for every list, number and buffer; that these declarations fit it is tested (check.c, masks.c, runs.c, walks.c).
  *
  * What a caller owes: a pointer is aligned and is not NULL, also where the length is 0, and that many entries lie there; the entries of `out`, and those of the list that mavrihkel_mask_runs
  * fills, may be written and overlap no other list. A call keeps no pointer, and no state between calls, so threads may call at once.
@@ -80,7 +80,8 @@ struct mavrihkel_run {
 
 /*
  * The six totals of the ground under the cells of runs; `runs_length` counts runs, and none is legal: six zeros. Each run lies after the one before: on a higher row, or on the same row with its
- * first column not below the earlier first column plus length. Seven values: the totals, and behind them an index: with 6 and 7 that of a run that breaks the rule, counted from 0; else 0.
+ * first column not below the earlier first column plus length. Seven values: the totals, and behind them an index: with 6 and 7 the lowest of a run that breaks that rule, counted from 0 (document
+ * 02, CR 8); else 0. With 7 it is that of the later run of two, so never 0.
  *   8  there are more than 4,096 runs
  *   6  a run has a row over 1,023, has no cell, or goes past column 1,023
  *   7  a run has a lower row than the run before it, or has the same row and begins before that run ends

@@ -128,7 +128,7 @@ pub fn outline_centroid_into(t: Totals, out: &mut [i64]) -> u32 {
     }
 }
 
-/// Writes the six totals of the ground under the runs to the first six entries and the index with 6 and 7 to the seventh, 0 with any other answer, in the same way.
+/// Writes the six totals of the ground under the runs to the first six entries and an index to the seventh, in the same way: with 6 and 7 the lowest of a run that breaks that rule, else 0.
 pub fn region_totals_into(runs: &[Run], out: &mut [i64]) -> u32 {
     // Sound, as above.
     unsafe {
@@ -220,7 +220,7 @@ pub fn outline_centroid(t: Totals) -> Result<Centre, Refusal> {
     }
 }
 
-/// The six totals of the ground under the cells of the runs; all of them are 0 where there is no run.
+/// The six totals of the ground under the cells of the runs; all of them are 0 where there is no run. A refusal with 6 or 7 names the first run that breaks that rule.
 pub fn region_totals(runs: &[Run]) -> Result<Totals, RegionRefusal> {
     let mut v = [0; 7];
     let number = region_totals_into(runs, &mut v);

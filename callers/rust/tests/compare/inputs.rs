@@ -94,24 +94,25 @@ pub fn region(random: &mut Random, count: usize) -> Vec<[u32; 3]> {
     runs
 }
 
-/// A region in which one to three runs have a number past its limits, or overlap or change places with the next.
+/// A region in which one to four runs have a number past its limits, or overlap or change places with the next.
 pub fn damaged_region(random: &mut Random, count: usize) -> Vec<[u32; 3]> {
     let mut runs = region(random, count);
     if count < 2 {
         return runs;
     }
     let order_alone = random.one_in(2);
-    for _ in 0..random.between(1, 3) {
+    for _ in 0..random.between(1, 4) {
         let i = random.between(0, count as i64 - 2) as usize;
         let any = random.next() as u32;
+        let run = &mut runs[i + random.one_of(&[0, 1])];
         match random.between(0, 5) {
             0 => runs.swap(i, i + 1),
             1 => runs[i + 1] = runs[i],
             _ if order_alone => runs.swap(i, i + 1),
-            2 => runs[i][0] = random.one_of(&[1023, 1024, u32::MAX, any]),
-            3 => runs[i][1] = random.one_of(&[1023, 1024, u32::MAX, any]),
-            4 => runs[i][2] = random.one_of(&[0, 1025, u32::MAX, any]),
-            _ => runs[i][2] = 1025 - runs[i][1].min(1024),
+            2 => run[0] = random.one_of(&[1023, 1024, u32::MAX, any]),
+            3 => run[1] = random.one_of(&[1023, 1024, u32::MAX, any]),
+            4 => run[2] = random.one_of(&[0, 1025, u32::MAX, any]),
+            _ => run[2] = 1025 - run[1].min(1024),
         }
     }
     runs

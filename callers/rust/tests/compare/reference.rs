@@ -169,25 +169,34 @@ fn add_cell(totals: &mut [i128; 6], x: i128, y: i128) {
     add_outline(totals, &[(x, y), (x + 1, y), (x + 1, y + 1), (x, y + 1)]);
 }
 
-/// A run is row, first column, length. The six totals go cell by cell. The last part has every index that may be given: with 6 and 7 that of any run that breaks it.
-pub fn region_call(runs: &[[u32; 3]]) -> (u32, [i128; 6], Vec<usize>) {
-    if runs.len() > 4096 {
-        return (8, [0; 6], vec![0]);
-    }
+/// The runs that break 6, by index, in order. A run is row, first column, length.
+pub fn breaking_6(runs: &[[u32; 3]]) -> Vec<usize> {
     let bad = |&[row, first, length]: &[u32; 3]| {
         row > 1023 || length == 0 || u64::from(first) + u64::from(length) > 1024
     };
-    let six: Vec<usize> = (0..runs.len()).filter(|&i| bad(&runs[i])).collect();
-    if !six.is_empty() {
-        return (6, [0; 6], six);
-    }
-    let after =
-        |[p, f, l]: [u32; 3], [row, first, _]: [u32; 3]| row > p || row == p && first >= f + l;
-    let seven: Vec<usize> = (1..runs.len())
+    (0..runs.len()).filter(|&i| bad(&runs[i])).collect()
+}
+
+/// The runs that break 7, by index, in order: each that does not lie after the run before it.
+pub fn breaking_7(runs: &[[u32; 3]]) -> Vec<usize> {
+    let after = |[p, f, l]: [u32; 3], [row, first, _]: [u32; 3]| {
+        row > p || row == p && u64::from(first) >= u64::from(f) + u64::from(l)
+    };
+    (1..runs.len())
         .filter(|&i| !after(runs[i - 1], runs[i]))
-        .collect();
-    if !seven.is_empty() {
-        return (7, [0; 6], seven);
+        .collect()
+}
+
+/// The number, the six totals cell by cell, and the index: with 6 and 7 the lowest of a run that breaks that rule.
+pub fn region_call(runs: &[[u32; 3]]) -> (u32, [i128; 6], usize) {
+    if runs.len() > 4096 {
+        return (8, [0; 6], 0);
+    }
+    if let Some(&lowest) = breaking_6(runs).iter().min() {
+        return (6, [0; 6], lowest);
+    }
+    if let Some(&lowest) = breaking_7(runs).iter().min() {
+        return (7, [0; 6], lowest);
     }
     let mut totals = [0; 6];
     for &[row, first, length] in runs {
@@ -195,7 +204,7 @@ pub fn region_call(runs: &[[u32; 3]]) -> (u32, [i128; 6], Vec<usize>) {
             add_cell(&mut totals, i128::from(column), i128::from(row));
         }
     }
-    (0, totals, vec![0])
+    (0, totals, 0)
 }
 
 /// A mask is refused by its length alone.

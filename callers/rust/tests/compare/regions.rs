@@ -1,9 +1,9 @@
 use crate::inputs::{damaged_region, region, Random};
 use crate::{narrow, reference, runs_of, Met};
-use mavrihkel::{outline_totals, region_totals, region_totals_into};
+use mavrihkel::{outline_totals, region_totals, region_totals_into, RegionRefusal};
 
 fn compare(runs: &[[u32; 3]], met: &mut Met) {
-    let (number, wanted, indices) = reference::region_call(runs);
+    let (number, wanted, index) = reference::region_call(runs);
     let mut out = [-1; 7];
     let named = format!("{} runs, {:?} ..", runs.len(), &runs[..runs.len().min(4)]);
     assert_eq!(
@@ -12,8 +12,7 @@ fn compare(runs: &[[u32; 3]], met: &mut Met) {
         "{named}"
     );
     assert_eq!(out[..6], narrow(wanted), "{named}");
-    let index = usize::try_from(out[6]).expect("an index is not negative");
-    assert!(indices.contains(&index), "{named}: {index}");
+    assert_eq!(out[6], index as i64, "{named}");
     met.count(number);
 }
 
@@ -91,6 +90,47 @@ fn six_before_seven() {
     compare(&[sound, bad, early], &mut met);
     compare(&[sound, early, sound], &mut met);
     met.each_of(&[6, 7], 1);
+}
+
+/// The first run is sound, the next two break 7, the last two break 6.
+const FIVE_RUNS: [[u32; 3]; 5] = [[5, 0, 3], [5, 2, 1], [4, 0, 1], [1024, 0, 1], [6, 0, 0]];
+
+/// The lowest run that breaks the rule of the number, though a lower one breaks the other rule and a higher one the same.
+#[test]
+fn the_lowest_run_that_breaks_the_rule() {
+    let told = |runs: &[[u32; 3]]| region_totals(&runs_of(runs)).err();
+    assert_eq!(told(&FIVE_RUNS), Some(RegionRefusal::BadRun(3)));
+    assert_eq!(told(&FIVE_RUNS[3..]), Some(RegionRefusal::BadRun(0)));
+    assert_eq!(told(&FIVE_RUNS[..3]), Some(RegionRefusal::OutOfOrder(1)));
+    assert_eq!(told(&FIVE_RUNS[1..3]), Some(RegionRefusal::OutOfOrder(1)));
+    assert_eq!(told(&FIVE_RUNS[..1]), None);
+    let mut met = Met::default();
+    for from in 0..5 {
+        for to in from..=5 {
+            compare(&FIVE_RUNS[from..to], &mut met);
+        }
+    }
+    met.each_of(&[0, 6, 7], 3);
+}
+
+/// Damaged lists in which another choice of the run would show: a higher run breaks the rule of the number too, or a lower one breaks 7 where the number is 6.
+#[test]
+fn several_runs_at_fault() {
+    let mut random = Random::seeded(23);
+    let mut met = Met::default();
+    let (mut two_of_6, mut two_of_7, mut seven_before_6) = (0, 0, 0);
+    for _ in 0..4_000 {
+        let count = random.between(2, 12) as usize;
+        let runs = damaged_region(&mut random, count);
+        compare(&runs, &mut met);
+        let (six, seven) = (reference::breaking_6(&runs), reference::breaking_7(&runs));
+        two_of_6 += u32::from(six.len() > 1);
+        two_of_7 += u32::from(six.is_empty() && seven.len() > 1);
+        seven_before_6 += u32::from(!six.is_empty() && !seven.is_empty() && seven[0] < six[0]);
+    }
+    met.each_of(&[0, 6, 7], 50);
+    let least = two_of_6.min(two_of_7).min(seven_before_6);
+    assert!(least >= 200, "{two_of_6}, {two_of_7}, {seven_before_6}");
 }
 
 /// The largest totals: the whole grid, in full rows and in quarters; and those of an outline round it.
