@@ -9,7 +9,7 @@ In NUMBERS.md, CROSSINGS.md, CASES.md, CASES-CELLS.md and TWO-WALKS.md every fig
   it is a general formula, and is tried on every line of the page and on made-up outlines, rings, regions, bits of masks
   and pairs of walks. The figures of an O line and of the S line count each ring by its kind; an R line with 32 stands
   for the points of the ring that it refuses, as the call on a whole list answers them;
-- a table after a comment `terms`, `map`, `moves`, `edges`, `loops`, `test`, `trial`, `answers`, `ground`, `cells` or `regions`,
+- a table after a comment `terms`, `map`, `moves`, `edges`, `loops`, `test`, `trial`, `answers`, `ground`, `cells`, `regions` or `mended`,
   or `answer`, `products`, `nearest`, `compared` or `sizes` for two walks; a block `runs`, `mask`, `map` or `walks`. A
   block `runs` that follows a block `mask` has the runs that the second program writes for it;
 - a block of code for the walks of the last block `walks`, and the block `printed` after it: see page_code.py.

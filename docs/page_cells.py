@@ -1,4 +1,4 @@
-"""The cells of a page: the figures of a region, and the rows of the tables `ground`, `cells` and `regions`. See check.py."""
+"""The cells of a page: the figures of a region, and the rows of the tables `ground`, `cells`, `regions` and `mended`. See check.py."""
 import re
 
 import cells
@@ -43,11 +43,36 @@ def cell_rows(names, found):
     return [*rows, ["Sum", *(f"`{int(found[name]):,}`" for name in names)]]
 
 
+def runs_in(listed):
+    """The runs that a cell of a table lists."""
+    return [cells.Run(*map(int, run)) for run in RUN.findall(listed)]
+
+
 def region_row(label, listed):
     """A row of the table, for the runs that its second cell lists: the number, the totals and, if there is one, the centre."""
-    runs = [cells.Run(*map(int, run)) for run in RUN.findall(listed)]
+    runs = runs_in(listed)
     number, _, totals = cells.region_totals(runs)
     refusal, *centre = figures.centre_of_totals(totals)
     written = " ".join(str(tuple(run)) for run in runs)
     at = "—" if number else f"refusal {refusal}" if refusal else str(tuple(centre))
     return [label, f"`{written}`" if runs else "none", str(number), *(f"{total:,}" for total in totals), at]
+
+
+# What is said of a run that breaks a rule, in the words of the table `mended`.
+FAULTS = {"its row is past the last": lambda run, _: run.row >= cells.GRID_SIDE,
+          "it has no cell": lambda run, _: run.length == 0,
+          "it begins before the run above it ends": lambda run, above: run.row == above.row and run.first < above.first + above.length,
+          "its row is lower than that of the run above it": lambda run, above: run.row < above.row}
+
+
+def check_mended(at, rows):
+    """Each row lists as many runs, with the number and the index that the call answers, and says what is wrong with the run at the
+    index. From row to row that run alone is another. The last list is accepted."""
+    lists = [runs_in(row[0]) for row in rows]
+    answered = [cells.region_totals(runs)[:2] for runs in lists]
+    expect([row[1:3] for row in rows] == [list(map(str, each)) for each in answered], at, f"the call answers {answered}")
+    expect([number for number, _ in answered[-2:]] != [0, 0] and answered[-1] == (0, 0), at, "not mended to the end")
+    for (runs, later), (_, index), (*_, fault) in zip(zip(lists, lists[1:]), answered, rows):
+        changed = [place for place, (run, mended) in enumerate(zip(runs, later)) if run != mended]
+        expect(len(runs) == len(later) and changed == [index], at, f"not mended at {index}: {runs}")
+        expect(FAULTS[fault](runs[index], runs[index - 1] if index else None), at, f"not so of {runs[index]}: {fault}")
