@@ -61,8 +61,8 @@ def region_row(label, listed):
 # What is said of a run that breaks a rule, in the words of the table `mended`.
 FAULTS = {"its row is past the last": lambda run, _: run.row >= cells.GRID_SIDE,
           "it has no cell": lambda run, _: run.length == 0,
-          "it begins before the run above it ends": lambda run, above: run.row == above.row and run.first < above.first + above.length,
-          "its row is lower than that of the run above it": lambda run, above: run.row < above.row}
+          "it begins before the run before it ends": lambda run, before: run.row == before.row and run.first < before.first + before.length,
+          "its row is lower than that of the run before it": lambda run, before: run.row < before.row}
 
 
 def check_mended(at, rows):

@@ -58,7 +58,7 @@ def lies_after(run, earlier):
 
 
 def breaking_6(runs):
-    """The indices of the runs that break 6, in order: row over 1,023, length 0, or first column plus length over 1,024."""
+    """The indices of the runs that break 6, in order: those without cells, and those with cells outside the grid."""
     return [index for index, run in enumerate(runs)
             if run.row > GRID_SIDE - 1 or run.length == 0 or run.first + run.length > GRID_SIDE]
 
@@ -71,8 +71,8 @@ def breaking_7(runs):
 def region_totals(runs):
     """Totals of a cell region: (number, index, totals).  Order 8, 6, 7.
 
-    The index given with 6 or 7 is the lowest of a run that breaks that rule (document 02, CR 8),
-    and with 7 that is the later run of a pair.  Otherwise it is 0.
+    With 6 and 7 the index is that of the first run in the list that breaks that rule (document 02,
+    CR 8); of a pair the later run breaks 7.  Otherwise the index is 0.
     """
     if len(runs) > MOST_RUNS:
         return 8, 0, ZERO_TOTALS

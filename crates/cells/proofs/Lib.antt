@@ -1,6 +1,7 @@
 pub mod RulePlaces
 pub mod RegionCases
 pub mod RefusalLaw
+mod NumberChosen
 pub mod LowestIndex
 pub mod Tests
 pub mod GridLaws
@@ -13,7 +14,7 @@ pub mod UniqueCells
 pub mod WorkedRun
 pub mod RunLimits
 pub mod WorkedIndices
-mod OnlyAnswers
+pub mod OnlyAnswers
 mod RegionUses
 mod IndexUses
 mod BigLiteral

@@ -1,4 +1,4 @@
--- The index that the call on runs gives: with 6 and 7 that of the lowest run that breaks the rule.
+-- The index that the call on runs gives: with 6 and 7 the lowest of the runs that break that rule.
 use mathlib.Core.Path.{_≡_, refl, sym, _∙_}
 use mathlib.Core.Bool.{Bool, true, false, false≢true}
 use mathlib.Core.List.{List}
@@ -11,7 +11,7 @@ use borrow.Author.Tests.{ltb-true, ltb-false}
 use Rattle.integers.proofs.Searches.{found-holds, none-before, found-at}
 use Rattle.cells.specs.declared.Run.{Run}
 use Rattle.cells.specs.RegionCall.{RegionOutcome, breaksSix, breaksSeven, lowestIndex, regionCall}
-use Rattle.cells.specs.RegionLaws.{LowestToBreak, LowestIndex}
+use Rattle.cells.specs.RegionLaws.{AllKeep, LowestToBreak, IndexIsLowest}
 use Rattle.cells.proofs.RulePlaces.{none-bad, none-disordered}
 use Rattle.cells.proofs.RegionCases.{RegionCase, eight, six, seven, taken, region-case}
 
@@ -21,7 +21,7 @@ module _ (breaks : List Run → ℕ → Bool) (rs : List Run) where
   lowest-is {i} h = found-at (breaks rs) (length rs) 0 i (omega arith) (omega (arith, h .present)) (λ j _ l. h .none-lower j l) (inr (h .broken))
 
   -- Where it is not so that every run keeps to the rule, one is the lowest that breaks it.
-  lowest-breaks : (((i : ℕ) → i < length rs → breaks rs i ≡ false) → ⊥) → LowestToBreak breaks rs (lowestIndex breaks rs)
+  lowest-breaks : (AllKeep breaks rs → ⊥) → LowestToBreak breaks rs (lowestIndex breaks rs)
   lowest-breaks some = go (ltb (lowestIndex breaks rs) (length rs)) refl
     where
       none-below : (j : ℕ) → j < lowestIndex breaks rs → breaks rs j ≡ false
@@ -33,8 +33,8 @@ module _ (breaks : List Run → ℕ → Bool) (rs : List Run) where
           record { present = l; broken = found-holds (breaks rs) (length rs) 0 (omega (arith, l)); none-lower = none-below }
       go false e = let l = ltb-false (lowestIndex breaks rs) (length rs) e in absurd (some (λ i h. none-below i (omega (arith, l, h))))
 
-pub lowest-index : LowestIndex
-lowest-index rs = record { with-six = for-six (region-case rs); with-seven = for-seven (region-case rs); otherwise = for-others (region-case rs) }
+pub index-is-lowest : IndexIsLowest
+index-is-lowest rs = record { with-six = for-six (region-case rs); with-seven = for-seven (region-case rs); otherwise = for-others (region-case rs) }
   where
     for-six : {o : RegionOutcome} → RegionCase rs o → o .number ≡ 6 → LowestToBreak breaksSix rs (o .index)
     for-six (eight many) e = absurd (omega arith)

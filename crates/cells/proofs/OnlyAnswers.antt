@@ -1,5 +1,5 @@
 -- What the promise of the call on runs leaves open: nothing. Each list of runs has one answer.
-use mathlib.Core.Path.{_≡_, refl, _∙_}
+use mathlib.Core.Path.{_≡_, refl, sym, _∙_}
 use mathlib.Core.List.{List}
 use lib.ListN.{replicate}
 use Rattle.cells.specs.declared.Run.{Run}
@@ -9,6 +9,11 @@ use Rattle.cells.specs.RegionCall.{refused, emptyRun, tooMany, regionCal
 use Rattle.cells.proofs.AnswerReading.{reading-one-to-one}
 use Rattle.cells.proofs.RunLimits.{severalRuns, severalTotals, accepted}
 use Rattle.cells.proofs.WorkedIndices.{twoDisordered, thenTwoBad, lowest}
+
+pub one-answer : (rs : List Run) (a b : RegionAnswer) → reading a ≡ regionCall rs → reading b ≡ regionCall rs → a ≡ b
+one-answer rs a b e f = reading-one-to-one a b (e ∙ sym f)
+
+-- ---- which answer, by its name
 
 -- a is what the promise leaves for these runs
 abbrev Only : List Run → RegionAnswer → Type 0

@@ -2,10 +2,7 @@
 use mathlib.Core.Path.{_≡_, refl, sym, subst}
 use mathlib.Core.Bool.{false}
 use mathlib.Core.List.{List}
-use Prim.Native.Nat.{_≤_}
 use native.Mathlib.Omega.{arith}
-use lib.ListN.{length}
-use borrow.Author.Tests.{ltb-false}
 use Rattle.cell_ground.specs.Ground.{groundOf}
 use Rattle.cell_ground.specs.GroundLaws.{TotalsOfGround}
 use Rattle.cells.specs.declared.Run.{Run}
@@ -13,6 +10,7 @@ use Rattle.cells.specs.RunCells.{allCells}
 use Rattle.cells.specs.RegionCall.{RegionOutcome, anyBad, disordered, tooMany, regionCall}
 use Rattle.cells.specs.RegionLaws.{RegionGround}
 use Rattle.cells.proofs.GridLaws.{runs-ground}
+use Rattle.cells.proofs.RulePlaces.{not-many}
 use Rattle.cells.proofs.RegionCases.{RegionCase, eight, six, seven, taken, region-case}
 
 pub record AcceptedRuns (rs : List Run) : Type 0 where
@@ -31,10 +29,6 @@ accepted-runs rs e =
     go (six few bad) e = absurd (omega arith)
     go (seven few good wrong) e = absurd (omega arith)
     go (taken few good ordered) e = (few, good, ordered, refl)
-
-pub not-many : (rs : List Run) → tooMany rs ≡ false → length rs ≤ 4096
-unfolding tooMany
-not-many rs e = ltb-false 4096 (length rs) e
 
 pub region-ground : RegionGround
 region-ground rs e =

@@ -7,7 +7,7 @@ use native.Mathlib.Omega.{arith}
 use lib.Dec.{leb, ltb, eqb, leb·zero}
 use lib.ListN.{length, length-append, List·getD-append}
 use lib.Seq.{getD-append-seam}
-use borrow.Author.Tests.{lt-ltb, le-ltb}
+use borrow.Author.Tests.{lt-ltb}
 use Rattle.cell_ground.specs.CellSums.{plusSums, sumsOver}
 use Rattle.cell_ground.specs.Ground.{groundOf}
 use Rattle.cell_ground.proofs.SumLaws.{sums-append}
@@ -18,10 +18,10 @@ use Rattle.cells.specs.declared.Found.the-variants.{Sums, BadRun, OutOfO
 use Rattle.cells.specs.declared.RegionAnswer.the-variants.{TooManyRuns}
 use Rattle.cells.specs.RunCells.{cellsOf, allCells}
 use Rattle.cells.specs.RegionCall.{emptyRun, badRun, anyBad, liesAfter, disordered, tooMany, runAt, breaksSix, breaksSeven, regionCall, reading}
-use Rattle.cells.specs.RegionLaws.{LowestToBreak}
+use Rattle.cells.specs.RegionLaws.{AllKeep, LowestToBreak}
 use Rattle.cells.specs.private.Scan.{held, sumsOf, noRuns, foundWith, addRun, answerOf, SumsSmall, HasRoom}
 use Rattle.cells.proofs.GridLaws.{runs-within}
-use Rattle.cells.proofs.RulePlaces.{good-at, ordered-at}
+use Rattle.cells.proofs.RulePlaces.{good-at, ordered-at, few, many}
 use Rattle.cells.proofs.LowestIndex.{lowest-is}
 
 -- ---- one run more at the end of a list
@@ -91,7 +91,7 @@ module _ (breaks : List Run → ℕ → Bool) (local : Local breaks) (rs : List 
       }
 
   -- None before, and the new run breaks it.
-  lowest-here : ((j : ℕ) → j < length rs → breaks rs j ≡ false) → breaks (rs ++ r ∷ []) (length rs) ≡ true → LowestToBreak breaks (rs ++ r ∷ []) (length rs)
+  lowest-here : AllKeep breaks rs → breaks (rs ++ r ∷ []) (length rs) ≡ true → LowestToBreak breaks (rs ++ r ∷ []) (length rs)
   lowest-here none e = record { present = omega (arith, length-snoc rs r); broken = e; none-lower = λ j l. local rs r j l ∙ none j l }
 
 six-here : (rs : List Run) (r : Run) → breaksSix (rs ++ r ∷ []) (length rs) ≡ badRun r
@@ -157,14 +157,6 @@ pub room : (rs : List Run) {s : Scan} → Stands rs s → length rs < 4096 → H
 room rs h l = record { runs = omega (arith, h .count); sums = sums-small rs h (omega arith) }
 
 -- ---- the call's promise
-
-few : (rs : List Run) → length rs ≤ 4096 → tooMany rs ≡ false
-unfolding tooMany
-few rs l = le-ltb _ (length rs) (omega arith)
-
-many : (rs : List Run) → 4096 < length rs → tooMany rs ≡ true
-unfolding tooMany
-many rs l = lt-ltb _ (length rs) (omega arith)
 
 pub answered : (rs : List Run) {s : Scan} → Stands rs s → length rs ≤ 4096 → reading (answerOf (s .found)) ≡ regionCall rs
 unfolding regionCall groundOf

@@ -8,30 +8,13 @@ use Rattle.cells.specs.declared.Run.{Run}
 use Rattle.cells.specs.RegionCall.{refused, badRun, anyBad, liesAfter, disordered, tooMany, regionCall}
 use Rattle.cells.proofs.RunLimits.{run}
 
--- a run of row 5; one that begins before it ends; one of a lower row
-abbrev row5 : Run
-row5 = run 5 0 3
-
-abbrev overlapping : Run
-overlapping = run 5 2 1
-
-abbrev lower : Run
-lower = run 4 0 1
-
--- two runs that break 6: past the last row, and without a cell
-abbrev outside : Run
-outside = run 1024 0 1
-
-abbrev empty : Run
-empty = run 6 0 0
-
--- The runs 1 and 2 break 7.
+-- Run 1 begins before run 0 ends, and run 2 has a lower row: both break 7.
 abbrev pub twoDisordered : List Run
-twoDisordered = row5 ∷ overlapping ∷ lower ∷ []
+twoDisordered = run 5 0 3 ∷ run 5 2 1 ∷ run 4 0 1 ∷ []
 
--- And behind them the runs 3 and 4 break 6.
+-- And behind them run 3 has a row over 1,023, and run 4 has no cell: both break 6.
 abbrev pub thenTwoBad : List Run
-thenTwoBad = twoDisordered ++ outside ∷ empty ∷ []
+thenTwoBad = twoDisordered ++ run 1024 0 1 ∷ run 6 0 0 ∷ []
 
 pub record Lowest : Type 0 where
   pub six : regionCall thenTwoBad ≡ refused 6 3
@@ -46,15 +29,22 @@ lowest = record { six = refl; seven = refl }
 abbrev answered : List (List Run) → List (ℕ × ℕ)
 answered ls = map (λ rs. (regionCall rs .number, regionCall rs .index)) ls
 
+-- a run of this row that breaks no rule alone, and one that breaks 6
+abbrev good : ℕ → Run
+good y = run y 0 1
+
+abbrev bad : ℕ → Run
+bad y = run y 0 0
+
 record Places : Type 0 where
   -- 6 by each run of three in turn, and by all of them
-  six : answered ((empty ∷ row5 ∷ row5 ∷ []) ∷ (row5 ∷ empty ∷ row5 ∷ []) ∷ (row5 ∷ row5 ∷ empty ∷ []) ∷ (empty ∷ empty ∷ empty ∷ []) ∷ []) ≡ (6, 0) ∷ (6, 1) ∷ (6, 2) ∷ (6, 0) ∷ []
-  -- 7 by the later run of each pair of three in turn, and by both pairs: never by the first run
-  seven : answered ((row5 ∷ lower ∷ run 7 0 1 ∷ []) ∷ (lower ∷ row5 ∷ overlapping ∷ []) ∷ (run 7 0 1 ∷ row5 ∷ lower ∷ []) ∷ []) ≡ (7, 1) ∷ (7, 2) ∷ (7, 1) ∷ []
-  -- a run that breaks both rules, behind one that breaks 7 alone
-  both : answered ((row5 ∷ lower ∷ run 3 0 0 ∷ lower ∷ empty ∷ []) ∷ []) ≡ (6, 2) ∷ []
+  six : answered ((bad 1 ∷ good 2 ∷ good 3 ∷ []) ∷ (good 1 ∷ bad 2 ∷ good 3 ∷ []) ∷ (good 1 ∷ good 2 ∷ bad 3 ∷ []) ∷ (bad 1 ∷ bad 2 ∷ bad 3 ∷ []) ∷ []) ≡ (6, 0) ∷ (6, 1) ∷ (6, 2) ∷ (6, 0) ∷ []
+  -- 7 by the later run of each pair of three in turn, and of both: never by the first run
+  seven : answered ((good 2 ∷ good 1 ∷ good 3 ∷ []) ∷ (good 1 ∷ good 3 ∷ good 2 ∷ []) ∷ (good 3 ∷ good 2 ∷ good 1 ∷ []) ∷ []) ≡ (7, 1) ∷ (7, 2) ∷ (7, 1) ∷ []
+  -- a run that breaks both rules, behind one that breaks 7 alone and before others
+  both : answered ((good 5 ∷ good 4 ∷ bad 3 ∷ good 2 ∷ bad 1 ∷ []) ∷ []) ≡ (6, 2) ∷ []
   -- 8, whatever the runs break; and no refusal
-  none : answered (replicate 4097 empty ∷ (lower ∷ row5 ∷ []) ∷ [] ∷ []) ≡ (8, 0) ∷ (0, 0) ∷ (0, 0) ∷ []
+  none : answered (replicate 4097 (bad 1) ∷ (good 1 ∷ good 2 ∷ []) ∷ [] ∷ []) ≡ (8, 0) ∷ (0, 0) ∷ (0, 0) ∷ []
 
 places : Places
 unfolding firstWhere badRun anyBad liesAfter disordered tooMany regionCall

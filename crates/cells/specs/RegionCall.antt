@@ -1,6 +1,6 @@
 -- Document 01, "Cells" and the refusals 6, 7 and 8, with the totals of document 02, CR 2, and the index of CR 8: the outcome of the call on a list of runs.
 use Prim.Native.Nat.{ℕ, zero, suc, _+_}
-use mathlib.Core.Bool.{Bool, true, false, not, _&&_, _||_, cond}
+use mathlib.Core.Bool.{Bool, false, not, _&&_, _||_, cond}
 use mathlib.Core.List.{List, [], _∷_}
 use lib.Dec.{leb, ltb, eqb}
 use lib.ListN.{length, getD}
@@ -42,20 +42,20 @@ tooMany rs = ltb 4096 (length rs)
 
 -- ---- which run breaks a rule first
 
--- The run at an index from 0, of a list that has one there.
+-- The run at an index from 0; past the end of the list the empty run.
 abbrev pub runAt : List Run → ℕ → Run
 runAt rs i = getD rs i emptyRun
 
--- The run at this index breaks 6.
+-- The run at this index, where the list has one, breaks 6.
 abbrev pub breaksSix : List Run → ℕ → Bool
 breaksSix rs i = badRun (runAt rs i)
 
--- The run at this index breaks 7: it does not lie after the run before it. The first run has none before it.
+-- The run at this index, where the list has one, breaks 7: it does not lie after the run before it. The first run has none before it.
 abbrev pub breaksSeven : List Run → ℕ → Bool
 breaksSeven rs zero = false
 breaksSeven rs (suc i) = not (liesAfter (runAt rs i) (runAt rs (suc i)))
 
--- Document 02, CR 8: the lowest index of a run that breaks a rule, of a list that has such a run.
+-- Document 02, CR 8: the lowest index of a run that breaks a rule; the length of a list that has no such run.
 abbrev pub lowestIndex : (List Run → ℕ → Bool) → List Run → ℕ
 lowestIndex breaks rs = firstWhere (breaks rs) (length rs) 0
 
@@ -70,7 +70,7 @@ pub record RegionOutcome : Type 0 where
 abbrev pub refused : ℕ → ℕ → RegionOutcome
 refused n i = record { number = n; index = i; totals = zeros }
 
--- The totals are those of the ground under the cells of all runs. Order: 8; 6 if any run of the list breaks it, whatever stands before it; then 7. The index is the lowest that breaks the rule of the number.
+-- The totals are those of the ground under the cells of all runs. Order: 8; 6 if any run of the list breaks it, whatever stands before it; then 7. With 6 and 7 the index is the lowest of the runs that break that rule; else it is 0.
 unfoldable pub regionCall : List Run → RegionOutcome
 regionCall rs =
     cond (tooMany rs) (refused 8 0)

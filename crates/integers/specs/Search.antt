@@ -1,4 +1,4 @@
--- The first place of a search: where the next run of a mask begins and ends (document 02, CR 1), and which run breaks a rule first (CR 8).
+-- The first place where a test holds: where the next run of a mask begins and ends (document 02, CR 1), and which run breaks a rule first (CR 8).
 use Prim.Native.Nat.{ℕ, zero, suc}
 use mathlib.Core.Bool.{Bool, cond}
 

@@ -1,4 +1,4 @@
--- The index that the call on runs gives is that of a run, and a list that is refused with 6 or 7 has no more than 4,096 of them.
+-- With 6 and 7 the index is that of a run, and a list so refused has no more than 4,096 of them; else it is 0.
 use Prim.Native.Nat.{ℕ, _≤_}
 use mathlib.Core.Path.{_≡_, ap}
 use mathlib.Core.Bool.{Bool, false}
@@ -9,7 +9,7 @@ use Rattle.integers.proofs.Searches.{found-bounds}
 use Rattle.cells.specs.declared.Run.{Run}
 use Rattle.cells.specs.RegionCall.{RegionOutcome, tooMany, breaksSix, breaksSeven, lowestIndex, regionCall}
 use Rattle.cells.proofs.RegionCases.{RegionCase, eight, six, seven, taken, region-case}
-use Rattle.cells.proofs.RegionGround.{not-many}
+use Rattle.cells.proofs.RulePlaces.{not-many}
 use Rattle.region_replies.specs.RegionReply.{indexCapped}
 
 lowest-within : (breaks : List Run → ℕ → Bool) (rs : List Run) → tooMany rs ≡ false → lowestIndex breaks rs ≤ 4096

@@ -6,6 +6,7 @@ ghost use Rattle.worked_plots.specs.Masks.{fourRuns, oneRunMore};
 use crate::show::end_row;
 use crate::show::show_label;
 use crate::show::show_natural;
+use crate::show::show_run;
 use crate::show::show_totals;
 use cells::Run;
 use mask_array::mask_runs_of;
@@ -58,12 +59,6 @@ fn one_run_more() -> [u64; 144]
     words[142] = 0;
     words[143] = 0;
     words
-}
-
-fn show_run(run: Run) {
-    show_natural(run.row as u64);
-    show_natural(run.first as u64);
-    show_natural(run.length as u64);
 }
 
 // The records from `from` up to `end`.

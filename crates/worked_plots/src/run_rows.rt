@@ -1,10 +1,11 @@
-// A list of five runs that is mended from the top, document 02, CR 8, each state of it a row.
+// A list of five runs that is mended run by run, each time at the index answered (document 02, CR 8). Each state of it is a row.
 ghost use mathlib.Core.Path.{_≡_};
 ghost use mathlib.Core.List.{[], _∷_};
 ghost use Rattle.cells.specs.RegionCall.{regionCall, reading};
 use crate::show::end_row;
 use crate::show::show_label;
 use crate::show::show_natural;
+use crate::show::show_run;
 use crate::show::show_totals;
 use cells::RegionAnswer;
 use cells::Run;
@@ -24,12 +25,6 @@ fn region_of_five(a: Run, b: Run, c: Run, d: Run, e: Run) -> RegionAnswer
     region_totals_of(runs, 5)
 }
 
-fn show_run(run: Run) {
-    show_natural(run.row as u64);
-    show_natural(run.first as u64);
-    show_natural(run.length as u64);
-}
-
 // Asked: the five runs. Answered: number, index, six totals.
 fn runs_row(a: Run, b: Run, c: Run, d: Run, e: Run) {
     let answer = region_of_five(a, b, c, d, e);
@@ -45,11 +40,13 @@ fn runs_row(a: Run, b: Run, c: Run, d: Run, e: Run) {
     end_row();
 }
 
-fn run_of(row: u32, first: u32, length: u32) -> Run {
+fn run_of(row: u32, first: u32, length: u32) -> Run
+    ensures { λ r. ⌜ r ≡ record { row = row; first = first; length = length } ⌝ }
+{
     Run { row, first, length }
 }
 
-// Runs 1 and 2 break 7, runs 3 and 4 break 6. The run at the index is mended, until the list is accepted.
+// At first runs 1 and 2 break 7, and runs 3 and 4 break 6 (run 4 breaks 7 too).
 pub(crate) fn run_rows() {
     let sound = run_of(5, 0, 3);
     let overlapping = run_of(5, 2, 1);

@@ -1,4 +1,5 @@
 // A row on standard output: its label, then fields, each after a tab.
+use cells::Run;
 use outline::Kind;
 use outline::Totals;
 
@@ -23,6 +24,13 @@ pub(crate) fn show_integer(n: i64) {
         return;
     }
     show_natural(decimals::magnitude(n));
+}
+
+// Its row, first column and length.
+pub(crate) fn show_run(run: Run) {
+    show_natural(run.row as u64);
+    show_natural(run.first as u64);
+    show_natural(run.length as u64);
 }
 
 pub(crate) fn show_coordinate(x: i32) {

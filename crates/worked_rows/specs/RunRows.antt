@@ -1,4 +1,4 @@
--- Document 02, CR 8: a list of runs that is mended from the top, as rows.
+-- Document 02, CR 8, as rows: a list of runs that is mended run by run, each time at the index answered.
 use Prim.Native.Nat.{ℕ}
 use mathlib.Core.List.{List, [], _∷_}
 use lib.IntN.{pos}
@@ -19,7 +19,7 @@ overlapping = run 5 2 1
 abbrev lower : Run
 lower = run 4 0 1
 
--- Run 3 has a row over 1,023, and run 4 has no cell: both break 6.
+-- Run 3 has a row over 1,023, and run 4 has no cell: both break 6. Behind run 3, run 4 breaks 7 too.
 abbrev outside : Run
 outside = run 1024 0 1
 

@@ -95,9 +95,9 @@ fn six_before_seven() {
 /// The first run is sound, the next two break 7, the last two break 6.
 const FIVE_RUNS: [[u32; 3]; 5] = [[5, 0, 3], [5, 2, 1], [4, 0, 1], [1024, 0, 1], [6, 0, 0]];
 
-/// The lowest run that breaks the rule of the number, though a lower one breaks the other rule and a higher one the same.
+/// The first run that breaks the rule of the number, though one before it breaks the other rule and one behind it the same.
 #[test]
-fn the_lowest_run_that_breaks_the_rule() {
+fn the_first_run_that_breaks_the_rule() {
     let told = |runs: &[[u32; 3]]| region_totals(&runs_of(runs)).err();
     assert_eq!(told(&FIVE_RUNS), Some(RegionRefusal::BadRun(3)));
     assert_eq!(told(&FIVE_RUNS[3..]), Some(RegionRefusal::BadRun(0)));
@@ -113,7 +113,7 @@ fn the_lowest_run_that_breaks_the_rule() {
     met.each_of(&[0, 6, 7], 3);
 }
 
-/// Damaged lists in which another choice of the run would show: a higher run breaks the rule of the number too, or a lower one breaks 7 where the number is 6.
+/// Damaged lists in which another choice of the run would show: one behind it breaks the rule of the number too, or one before it breaks 7 where the number is 6.
 #[test]
 fn several_runs_at_fault() {
     let mut random = Random::seeded(23);
