@@ -23,7 +23,7 @@ SEED = 7
 MADE_UP = 100
 ALLOWED = re.compile(r"\b(A2|X6|Y6|XX12|XY24|YY12|[Dd]ocument 0[12]|document 000|CR [238]|[Rr]efusal (3|4|6|7|8|10|22|27|31|32))\b")
 # Of the tables that are recomputed in part: the cells of a row that are read as text.
-AS_TEXT = {"test": slice(1, None), "ground": slice(3, None), "regions": slice(1), "mended": slice(3, None)}
+AS_TEXT = {"test": slice(1, None), "ground": slice(3, None), "regions": slice(1)}
 
 
 # Figures by name
@@ -144,7 +144,7 @@ class Page:
                 table.append([cell.strip() for cell in line.strip("|").split("|")])
                 if not self.lines[number + 1].startswith("|"):
                     self.table(number, table[0], table[1:], now)
-                if table[0] in ("edges", "loops", "trial", "answers", "cells", "moves", *page_walks.ROWS):
+                if table[0] in ("edges", "loops", "trial", "answers", "cells", "moves", "mended", *page_walks.ROWS):
                     continue
                 if table[0] in AS_TEXT:
                     line = "|".join(table[-1][AS_TEXT[table[0]]])
@@ -293,5 +293,6 @@ class Page:
         expect(rows[2:] == answered, self.at(number), f"the call answers {answered}")
 
     def table_mended(self, number, rows, _):
-        """A list of runs, mended at the index that the row before gives, until it is accepted."""
-        page_cells.check_mended(self.at(number), rows[2:])
+        """A list of runs, mended run by run until it is accepted, with the number and the index each time."""
+        expected = list(page_cells.mended_table())
+        expect(rows == expected, self.at(number), f"the table is {expected}")

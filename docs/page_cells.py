@@ -4,6 +4,7 @@ import re
 import cells
 import exact
 import figures
+import worked
 from differences import expect
 
 RUN = re.compile(r"\((\d+), (\d+), (\d+)\)")
@@ -43,36 +44,32 @@ def cell_rows(names, found):
     return [*rows, ["Sum", *(f"`{int(found[name]):,}`" for name in names)]]
 
 
-def runs_in(listed):
-    """The runs that a cell of a table lists."""
-    return [cells.Run(*map(int, run)) for run in RUN.findall(listed)]
+def written(runs):
+    """Runs as a cell of a table lists them."""
+    return "`" + " ".join(str(tuple(run)) for run in runs) + "`"
 
 
 def region_row(label, listed):
     """A row of the table, for the runs that its second cell lists: the number, the totals and, if there is one, the centre."""
-    runs = runs_in(listed)
+    runs = [cells.Run(*map(int, run)) for run in RUN.findall(listed)]
     number, _, totals = cells.region_totals(runs)
     refusal, *centre = figures.centre_of_totals(totals)
-    written = " ".join(str(tuple(run)) for run in runs)
     at = "—" if number else f"refusal {refusal}" if refusal else str(tuple(centre))
-    return [label, f"`{written}`" if runs else "none", str(number), *(f"{total:,}" for total in totals), at]
+    return [label, written(runs) if runs else "none", str(number), *(f"{total:,}" for total in totals), at]
 
 
-# What is said of a run that breaks a rule, in the words of the table `mended`.
-FAULTS = {"its row is past the last": lambda run, _: run.row >= cells.GRID_SIDE,
-          "it has no cell": lambda run, _: run.length == 0,
-          "it begins before the run before it ends": lambda run, before: run.row == before.row and run.first < before.first + before.length,
-          "its row is lower than that of the run before it": lambda run, before: run.row < before.row}
+def fault(number, run, before):
+    """What is wrong with a run that breaks 6, or 7 behind the run before it, in the words of the table `mended`."""
+    if number == 6:
+        return "it has no cell" if run.length == 0 else "its row is past the last" if run.row >= cells.GRID_SIDE else "it goes past the last column"
+    return "its row is lower than that of the run listed before it" if run.row < before.row else "it begins before the run listed before it ends"
 
 
-def check_mended(at, rows):
-    """Each row lists as many runs, with the number and the index that the call answers, and says what is wrong with the run at the
-    index. From row to row that run alone is another. The last list is accepted."""
-    lists = [runs_in(row[0]) for row in rows]
-    answered = [cells.region_totals(runs)[:2] for runs in lists]
-    expect([row[1:3] for row in rows] == [list(map(str, each)) for each in answered], at, f"the call answers {answered}")
-    expect([number for number, _ in answered[-2:]] != [0, 0] and answered[-1] == (0, 0), at, "not mended to the end")
-    for (runs, later), (_, index), (*_, fault) in zip(zip(lists, lists[1:]), answered, rows):
-        changed = [place for place, (run, mended) in enumerate(zip(runs, later)) if run != mended]
-        expect(len(runs) == len(later) and changed == [index], at, f"not mended at {index}: {runs}")
-        expect(FAULTS[fault](runs[index], runs[index - 1] if index else None), at, f"not so of {runs[index]}: {fault}")
+def mended_table():
+    """The table `mended`: the second program's five runs as they are, then with one more of them mended each time."""
+    yield ["Runs: row, first column, length", "Number", "Index", "What is wrong with the run at the index"]
+    yield ["---"] * 4
+    for runs in worked.mended_lists():
+        number, index, _ = cells.region_totals(runs)
+        wrong = fault(number, runs[index], runs[index - 1]) if number else "nothing: the list is accepted"
+        yield [written(runs), str(number), str(index), wrong]

@@ -19,7 +19,7 @@ from madeup_runs import EDGE_NUMBERS, MOST_NUMBER, large_lists, random_list
 from worked import FIVE_RUNS, mended_lists, numbers_of
 
 NUMBERS = {0, 6, 7, 8}
-# Read as one run more, the first would add a cell, the second would break 7, the others 6.
+# Read as one run more, the first would add a cell, the second would break 7 behind any run, the others 6.
 BEHIND = (Run(1023, 1023, 1), Run(0, 0, 1), Run(1024, 0, 1), Run(MOST_NUMBER, MOST_NUMBER, MOST_NUMBER))
 SMALL_RUNS = [Run(*numbers) for numbers in product((0, 1), (0, 1, 2), (1, 2))]
 
@@ -47,6 +47,13 @@ def fixed_lists():
         yield "two runs", list(pair)
 
 
+def last_of_the_most():
+    """As many runs as are allowed, of which the last alone breaks 6, or 7: the greatest index of each."""
+    sound = [Run(k // 4, k % 4, 1) for k in range(MOST_RUNS - 1)]
+    for number, last in ((6, Run(1_023, 3, 0)), (7, Run(1_023, 0, 1))):
+        yield f"{MOST_RUNS} runs, the last breaks {number}", [*sound, last]
+
+
 def whole_grid():
     """The whole grid in rows and in quarters of rows."""
     yield "whole grid", [Run(row, 0, GRID_SIDE) for row in range(GRID_SIDE)]
@@ -56,6 +63,7 @@ def whole_grid():
 def all_lists(rng, cases, with_long):
     """Every list of a run."""
     yield from fixed_lists()
+    yield from last_of_the_most()
     yield from whole_grid() if with_long else ()
     for _ in range(11 if with_long else 1):
         yield from large_lists(rng)
@@ -81,12 +89,14 @@ def told(case):
 def kinds(runs, number, index):
     """The kinds of lists in which a wrong index would show, and whether this list is of each."""
     six, seven, last = breaking_6(runs), breaking_7(runs), len(runs) - 1
-    return {"6 with a lower run that breaks 7": number == 6 and min(seven, default=index) < index,
-            "6 with a higher run that breaks 6": number == 6 and max(six) > index,
-            "7 with a higher run that breaks 7": number == 7 and max(seven) > index,
+    return {"6 behind a run that breaks 7": number == 6 and min(seven, default=index) < index,
+            "6 before a run that breaks 6": number == 6 and max(six) > index,
+            "7 before a run that breaks 7": number == 7 and max(seven) > index,
             "6 at index 0": (number, index) == (6, 0),
             "6 at the last run": (number, index) == (6, last),
-            "7 at the last run": (number, index) == (7, last)}
+            "7 at the last run": (number, index) == (7, last),
+            "6 at the greatest index": (number, index) == (6, MOST_RUNS - 1),
+            "7 at the greatest index": (number, index) == (7, MOST_RUNS - 1)}
 
 
 def main():

@@ -102,7 +102,7 @@ def any_numbers(rng, _):
     return Run(*(rng.getrandbits(32) for _ in range(3)))
 
 
-OTHER_NUMBERS = (other_row, other_first, other_length, other_length, to_the_end, past_32_bits, any_numbers)
+OTHER_NUMBERS = (other_row, other_first, other_length, to_the_end, past_32_bits, any_numbers)
 
 
 # Lists

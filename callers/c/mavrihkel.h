@@ -80,7 +80,7 @@ struct mavrihkel_run {
 
 /*
  * The six totals of the ground under the cells of runs; `runs_length` counts runs, and none is legal: six zeros. Each run lies after the one before: on a higher row, or on the same row with its
- * first column not below the earlier first column plus length. Seven values: the totals, and behind them an index: with 6 and 7 the lowest index of a run that breaks that rule, counted from 0 (document
+ * first column not below the earlier first column plus length. Seven values: the totals, and behind them an index: with 6 and 7 that of the first run that breaks that rule, counted from 0 (document
  * 02, CR 8); else 0. With 7 it is that of the later run of two, so never 0.
  *   8  there are more than 4,096 runs
  *   6  a run has a row over 1,023, has no cell, or goes past column 1,023

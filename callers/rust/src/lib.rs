@@ -128,7 +128,7 @@ pub fn outline_centroid_into(t: Totals, out: &mut [i64]) -> u32 {
     }
 }
 
-/// Writes the six totals of the ground under the runs to the first six entries and an index to the seventh, in the same way: with 6 and 7 the lowest index of a run that breaks that rule, else 0.
+/// Writes the six totals of the ground under the runs to the first six entries and an index to the seventh, in the same way: with 6 and 7 that of the first run that breaks that rule, else 0.
 pub fn region_totals_into(runs: &[Run], out: &mut [i64]) -> u32 {
     // Sound, as above.
     unsafe {

@@ -72,7 +72,7 @@ impl fmt::Display for Refusal {
 
 impl Error for Refusal {}
 
-/// Why a list of runs has no totals: refusal 6 or 7 with the lowest index, from 0, of a run that breaks that rule (document 02, CR 8), or 8. With 7 it is the later run of two, so never run 0.
+/// Why a list of runs has no totals: refusal 6 or 7 with the index, from 0, of the first run that breaks that rule (document 02, CR 8), or 8. With 7 it is the later run of two, so never run 0.
 #[derive(Clone, Copy, Debug, PartialEq, Eq)]
 pub enum RegionRefusal {
     BadRun(usize),

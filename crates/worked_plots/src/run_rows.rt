@@ -13,7 +13,7 @@ use region_array::region_totals_of;
 use region_replies::index_of_region;
 use region_replies::totals_of_region;
 
-// Five runs.
+// The answer for five runs, out of an array for 4,097.
 fn region_of_five(a: Run, b: Run, c: Run, d: Run, e: Run) -> RegionAnswer
     ensures { λ r. ⌜ reading r ≡ regionCall (a ∷ b ∷ c ∷ d ∷ e ∷ []) ⌝ }
 {

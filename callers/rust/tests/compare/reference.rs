@@ -187,7 +187,7 @@ pub fn breaking_7(runs: &[[u32; 3]]) -> Vec<usize> {
         .collect()
 }
 
-/// The number, the six totals cell by cell, and the index: with 6 and 7 the lowest index of a run that breaks that rule.
+/// The number, the six totals cell by cell, and the index: with 6 and 7 that of the first run that breaks that rule.
 pub fn region_call(runs: &[[u32; 3]]) -> (u32, [i128; 6], usize) {
     if runs.len() > 4096 {
         return (8, [0; 6], 0);

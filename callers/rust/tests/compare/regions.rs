@@ -133,6 +133,17 @@ fn several_runs_at_fault() {
     assert!(least >= 200, "{two_of_6}, {two_of_7}, {seven_before_6}");
 }
 
+/// 4,096 runs of which the last alone breaks a rule: the greatest index.
+#[test]
+fn the_last_of_4096_runs() {
+    let told = |runs: &[[u32; 3]]| region_totals(&runs_of(runs)).err();
+    let mut runs: Vec<[u32; 3]> = (0..4096).map(|i| [i / 4, i % 4, 1]).collect();
+    runs[4095] = [1023, 3, 0];
+    assert_eq!(told(&runs), Some(RegionRefusal::BadRun(4095)));
+    runs[4095] = [1023, 0, 1];
+    assert_eq!(told(&runs), Some(RegionRefusal::OutOfOrder(4095)));
+}
+
 /// The largest totals: the whole grid, in full rows and in quarters; and those of an outline round it.
 #[test]
 fn the_whole_grid() {
