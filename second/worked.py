@@ -5,7 +5,7 @@ Fields are separated by tabs: label, what was asked, refusal number (0 if accept
 Reading a square sum refuses nothing, so its row has no refusal number.
 """
 from annex import annex
-from cells import Run, region_totals
+from cells import MOST_RUNS, Run, region_totals
 from figures import CLOSED_WALK, FRESH_ISLAND, NEW_SHEET, TOTAL_LIMIT, ZERO_TOTALS
 from figures import Kind, Sheet, begin, centre_of_totals, end, list_call, outline_totals, point
 from inputs import RECTANGLE, SQUARE
@@ -234,6 +234,12 @@ def runs_row(runs):
     return ["runs", *numbers_of(runs), number, index, *totals]
 
 
+def array_row(run):
+    """One run, listed 4,097 times.  Asked: the run.  Answered: number, index, six totals."""
+    number, index, totals = region_totals([run] * (MOST_RUNS + 1))
+    return ["runs-4097", *run, number, index, *totals]
+
+
 def rows():
     """The fields of every row."""
     yield limit_row(2000)
@@ -254,6 +260,7 @@ def rows():
     yield from annex_rows()
     yield from move_rows()
     yield from map(runs_row, mended_lists())
+    yield array_row(FIVE_RUNS[-1])
 
 
 if __name__ == "__main__":

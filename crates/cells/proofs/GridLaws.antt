@@ -1,12 +1,10 @@
 -- Runs that 6 does not refuse have their cells in the grid, each run at most 1,024 of them; and so how large their sums and totals are.
 use mathlib.Core.Path.{_≡_, refl, ap}
-use mathlib.Core.Bool.{false, _||_}
+use mathlib.Core.Bool.{false}
 use mathlib.Core.List.{List, [], _∷_}
 use Prim.Native.Nat.{ℕ, zero, suc, _+_, _*_, _≤_, _^_}
 use native.Mathlib.Omega.{arith}
-use lib.Dec.{ltb, eqb}
 use lib.ListN.{length, length-append}
-use borrow.Author.Tests.{ltb-false}
 use Rattle.integers.proofs.Flags.{both-failed}
 use Rattle.outline.proofs.Every.{All, all-append, all-at}
 use Rattle.cell_ground.specs.CellSums.{origin, sumsOver}
@@ -19,15 +17,10 @@ use Rattle.cells.specs.declared.Run.{Run}
 use Rattle.cells.specs.RunCells.{cellsFrom, cellsOf, allCells}
 use Rattle.cells.specs.RegionCall.{badRun, anyBad}
 use Rattle.cells.specs.private.Scan.{RunInGrid}
+use Rattle.cells.proofs.RunRules.{keeps-six}
 
 pub in-grid : (r : Run) → badRun r ≡ false → RunInGrid r
-unfolding badRun
-in-grid r e =
-    let (f, end) = both-failed (ltb 1023 (r .row) || eqb (r .length) 0) (ltb 1024 (r .first + r .length)) e in
-    record {
-      row = ltb-false 1023 (r .row) (both-failed (ltb 1023 (r .row)) (eqb (r .length) 0) f .0);
-      end = ltb-false 1024 (r .first + r .length) end;
-    }
+in-grid r e = let good = keeps-six r e in record { row = good .row; end = good .end }
 
 -- ---- the cells of a run
 

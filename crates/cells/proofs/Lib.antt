@@ -1,3 +1,4 @@
+pub mod RunRules
 pub mod RulePlaces
 pub mod RegionCases
 pub mod RefusalLaw

@@ -1,36 +1,35 @@
--- What the promise of the call on runs leaves open: nothing. Each list of runs has one answer.
-use mathlib.Core.Path.{_≡_, refl, sym, _∙_}
+-- What the promise of the call on runs leaves open: nothing. Each list of runs has one answer, which its number, index and totals settle.
+use Prim.Native.Nat.{ℕ}
+use mathlib.Core.Path.{_≡_, sym, _∙_}
 use mathlib.Core.List.{List}
-use lib.ListN.{replicate}
+use Rattle.outline.specs.declared.Totals.{Totals}
 use Rattle.cells.specs.declared.Run.{Run}
 use Rattle.cells.specs.declared.RegionAnswer.{RegionAnswer}
 use Rattle.cells.specs.declared.RegionAnswer.the-variants.{Accepted, BadRun, OutOfOrder, TooManyRuns}
-use Rattle.cells.specs.RegionCall.{refused, emptyRun, tooMany, regionCall, reading}
+use Rattle.cells.specs.RegionCall.{refused, regionCall, reading}
 use Rattle.cells.proofs.AnswerReading.{reading-one-to-one}
-use Rattle.cells.proofs.RunLimits.{severalRuns, severalTotals, accepted}
-use Rattle.cells.proofs.WorkedIndices.{twoDisordered, thenTwoBad, lowest}
+use Rattle.cells.proofs.WorkedIndices.{thenTwoBad, lowest}
 
-pub one-answer : (rs : List Run) (a b : RegionAnswer) → reading a ≡ regionCall rs → reading b ≡ regionCall rs → a ≡ b
-one-answer rs a b e f = reading-one-to-one a b (e ∙ sym f)
+module _ (rs : List Run) where
+  pub one-answer : (a b : RegionAnswer) → reading a ≡ regionCall rs → reading b ≡ regionCall rs → a ≡ b
+  one-answer a b e f = reading-one-to-one a b (e ∙ sym f)
 
--- ---- which answer, by its name
+  -- a is the answer that keeps the promise for these runs
+  abbrev Only : RegionAnswer → Type 0
+  Only a = (b : RegionAnswer) → reading b ≡ regionCall rs → b ≡ a
 
--- a is what the promise leaves for these runs
-abbrev Only : List Run → RegionAnswer → Type 0
-Only rs a = (b : RegionAnswer) → reading b ≡ regionCall rs → b ≡ a
+  only-accepted : (t : Totals) → regionCall rs ≡ record { number = 0; index = 0; totals = t } → Only (Accepted t)
+  only-accepted t h b e = reading-one-to-one b (Accepted t) (e ∙ h)
 
-only-accepted : Only severalRuns (Accepted severalTotals)
-only-accepted b e = reading-one-to-one b (Accepted severalTotals) (e ∙ accepted .several-runs)
+  only-six : (i : ℕ) → regionCall rs ≡ refused 6 i → Only (BadRun i)
+  only-six i h b e = reading-one-to-one b (BadRun i) (e ∙ h)
 
-only-six : Only thenTwoBad (BadRun 3)
-only-six b e = reading-one-to-one b (BadRun 3) (e ∙ lowest .six)
+  only-seven : (i : ℕ) → regionCall rs ≡ refused 7 i → Only (OutOfOrder i)
+  only-seven i h b e = reading-one-to-one b (OutOfOrder i) (e ∙ h)
 
-only-seven : Only twoDisordered (OutOfOrder 1)
-only-seven b e = reading-one-to-one b (OutOfOrder 1) (e ∙ lowest .seven)
+  only-eight : regionCall rs ≡ refused 8 0 → Only TooManyRuns
+  only-eight h b e = reading-one-to-one b TooManyRuns (e ∙ h)
 
-eight : regionCall (replicate 4097 emptyRun) ≡ refused 8 0
-unfolding tooMany regionCall
-eight = refl
-
-only-eight : Only (replicate 4097 emptyRun) TooManyRuns
-only-eight b e = reading-one-to-one b TooManyRuns (e ∙ eight)
+-- Of five runs, run 3 is the first that breaks 6.
+five-runs : Only thenTwoBad (BadRun 3)
+five-runs = only-six thenTwoBad 3 (lowest .six)

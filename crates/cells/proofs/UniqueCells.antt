@@ -1,19 +1,19 @@
 -- Accepted runs list no cell twice: their cells ascend by row and, in a row, by column.
 use mathlib.Core.Path.{_≡_, refl, sym, subst}
-use mathlib.Core.Bool.{Bool, true, false, not, _||_, _&&_, false≢true}
+use mathlib.Core.Bool.{false, not}
 use mathlib.Core.List.{List, [], _∷_, _++_}
 use mathlib.Core.Logic.{_⊎_, inl, inr}
 use Prim.Native.Nat.{ℕ, zero, suc, _+_, _<_, _≤_}
 use native.Mathlib.Nat.{add-zero}
 use native.Mathlib.Omega.{arith}
-use lib.Dec.{leb, ltb, eqb}
 use lib.ListN.{length, getD}
-use borrow.Author.Tests.{ltb-true, leb-true, eqb-true, not-false}
+use borrow.Author.Tests.{not-false}
 use Rattle.cell_ground.specs.CellSums.{Cell, origin}
 use Rattle.cells.specs.declared.Run.{Run}
 use Rattle.cells.specs.RunCells.{cellsFrom, cellsOf, allCells, EachOnce}
 use Rattle.cells.specs.RegionCall.{liesAfter, disordered, regionCall}
 use Rattle.cells.proofs.RegionGround.{accepted-runs}
+use Rattle.cells.proofs.RunRules.{keeps-seven}
 use Rattle.integers.proofs.Flags.{both-failed}
 
 -- Column v of row u is not before column x of row y.
@@ -57,25 +57,13 @@ unfolding cellsFrom
 run-ascends y x zero cs a = rw add-zero at a
 run-ascends y x (suc n) cs a = (inr (refl, omega arith), run-ascends y (suc x) n cs (let e : suc x + n ≡ x + suc n = omega arith in rw e a))
 
-after-is : (p r : Run) → liesAfter p r ≡ true → NotBefore (p .row) (p .first + p .length) (r .row) (r .first)
-unfolding liesAfter
-after-is p r e =
-    go (ltb (p .row) (r .row)) (eqb (p .row) (r .row)) (leb (p .first + p .length) (r .first)) (ltb-true (p .row) (r .row)) (eqb-true (p .row) (r .row)) (leb-true (p .first + p .length) (r .first)) e
-  where
-    go : (a b c : Bool) → (a ≡ true → p .row < r .row) → (b ≡ true → p .row ≡ r .row) → (c ≡ true → p .first + p .length ≤ r .first) → (a || b && c) ≡ true
-        → NotBefore (p .row) (p .first + p .length) (r .row) (r .first)
-    go true b c f g h e = inl (f refl)
-    go false true true f g h e = inr (g refl, h refl)
-    go false true false f g h e = absurd (false≢true e)
-    go false false c f g h e = absurd (false≢true e)
-
 -- The cells of runs each of which lies after the one before.
 ascending : (r : Run) (rs : List Run) → disordered (r ∷ rs) ≡ false → Ascend (r .row) (r .first) (allCells (r ∷ rs))
 unfolding disordered allCells cellsOf
 ascending r [] e = run-ascends (r .row) (r .first) (r .length) [] tt
 ascending r (q ∷ qs) e =
     let (f, g) = both-failed (not (liesAfter r q)) (disordered (q ∷ qs)) e in
-    run-ascends (r .row) (r .first) (r .length) (allCells (q ∷ qs)) (sooner (allCells (q ∷ qs)) (after-is r q (not-false (liesAfter r q) f)) (ascending q qs g))
+    run-ascends (r .row) (r .first) (r .length) (allCells (q ∷ qs)) (sooner (allCells (q ∷ qs)) (keeps-seven r q (not-false (liesAfter r q) f)) (ascending q qs g))
 
 pub each-cell-once : (rs : List Run) → regionCall rs .number ≡ 0 → EachOnce (allCells rs)
 unfolding allCells

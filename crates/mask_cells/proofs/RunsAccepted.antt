@@ -3,14 +3,14 @@ use mathlib.Core.Path.{_≡_, refl, ap}
 use mathlib.Core.Bool.{true, false, not}
 use mathlib.Core.List.{List, [], _∷_}
 use mathlib.Core.Logic.{inl, inr}
-use Prim.Native.Nat.{ℕ, _+_, _/_, _≤_, _<_}
+use Prim.Native.Nat.{ℕ, _/_, _≤_}
 use native.Mathlib.Omega.{arith}
 use lib.ListN.{length}
-use borrow.Author.Tests.{lt-ltb, le-ltb, le-leb, eq-eqb, ne-eqb}
 use Rattle.integers.proofs.Flags.{neither}
 use Rattle.cell_ground.specs.Ground.{groundOf}
 use Rattle.cells.specs.declared.Run.{Run}
 use Rattle.cells.specs.RegionCall.{badRun, liesAfter, disordered, runAt, regionCall}
+use Rattle.cells.proofs.RunRules.{six-kept, seven-kept}
 use Rattle.cells.proofs.RulePlaces.{none-bad}
 use Rattle.mask_cells.specs.MaskCells.{longestRuns}
 use Rattle.mask_cells.specs.MaskLaws.{Apart, Longest, RunsAccepted}
@@ -22,15 +22,13 @@ use Rattle.mask_cells.proofs.RunsCells.{runs-cells}
 -- ---- 6
 
 longest-good : (ws : List ℕ) (r : Run) → length ws / 16 ≤ 1024 → Longest ws r → badRun r ≡ false
-unfolding badRun
-longest-good ws r h l = neither (neither (le-ltb 1023 (r .row) (omega (arith, l .in-mask))) (ne-eqb (r .length) 0 (λ e. omega (arith, l .nonempty)))) (le-ltb 1024 (r .first + r .length) (l .in-row))
+longest-good ws r h l = six-kept r (record { row = omega (arith, l .in-mask); cells = l .nonempty; end = l .in-row })
 
 -- ---- 7
 
 apart-after : (p r : Run) → Apart p r → liesAfter p r ≡ true
-unfolding liesAfter
-apart-after p r (inl above) = rw (lt-ltb (p .row) (r .row) above)
-apart-after p r (inr (row, east)) = rw (le-ltb (p .row) (r .row) (omega arith), eq-eqb (p .row) (r .row) row, le-leb (p .first + p .length) (r .first) (omega arith))
+apart-after p r (inl above) = seven-kept p r (inl above)
+apart-after p r (inr (row, east)) = seven-kept p r (inr (row, omega arith))
 
 apart-ordered : (rs : List Run) → ApartInTurn rs → disordered rs ≡ false
 unfolding disordered

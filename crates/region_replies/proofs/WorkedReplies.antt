@@ -1,4 +1,5 @@
 -- Replies worked by computation: where each value stands, what stays behind the values, the number of a short buffer.
+use Prim.Native.Nat.{ℕ}
 use mathlib.Core.Path.{_≡_, refl, ap}
 use mathlib.Core.List.{[], _∷_}
 use lib.IntN.{pos}
@@ -14,10 +15,10 @@ region : regionReply (record { number = 0; index = 0; totals = record { a2 = pos
 unfolding reply
 region = refl
 
--- Run 3 breaks 6.
-refused-region : regionReply (refused 6 3) (replicate 7 (pos 9)) ≡ record { number = 6; buffer = pos 0 ∷ pos 0 ∷ pos 0 ∷ pos 0 ∷ pos 0 ∷ pos 0 ∷ pos 3 ∷ [] }
+-- Whatever is refused, and whichever run is at the index.
+refused-region : (n i : ℕ) → regionReply (refused n i) (replicate 7 (pos 9)) ≡ record { number = n; buffer = pos 0 ∷ pos 0 ∷ pos 0 ∷ pos 0 ∷ pos 0 ∷ pos 0 ∷ pos i ∷ [] }
 unfolding reply
-refused-region = refl
+refused-region n i = refl
 
 short-for-region : regionReply (refused 6 3) (replicate 6 (pos 9)) ≡ record { number = 100; buffer = replicate 6 (pos 9) }
 unfolding reply

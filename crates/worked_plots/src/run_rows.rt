@@ -1,6 +1,7 @@
 // A list of five runs that is mended run by run, each time at the index answered (document 02, CR 8). Each state of it is a row.
 ghost use mathlib.Core.Path.{_≡_};
 ghost use mathlib.Core.List.{[], _∷_};
+ghost use lib.ListN.{replicate};
 ghost use Rattle.cells.specs.RegionCall.{regionCall, reading};
 use crate::show::end_row;
 use crate::show::show_label;
@@ -25,6 +26,13 @@ fn region_of_five(a: Run, b: Run, c: Run, d: Run, e: Run) -> RegionAnswer
     region_totals_of(runs, 5)
 }
 
+// One run more than is allowed, all the same: the whole array.
+fn region_of_array(run: Run) -> RegionAnswer
+    ensures { λ r. ⌜ reading r ≡ regionCall (replicate 4097 run) ⌝ }
+{
+    region_totals_of([run; 4097], 4097)
+}
+
 // Asked: the five runs. Answered: number, index, six totals.
 fn runs_row(a: Run, b: Run, c: Run, d: Run, e: Run) {
     let answer = region_of_five(a, b, c, d, e);
@@ -34,6 +42,17 @@ fn runs_row(a: Run, b: Run, c: Run, d: Run, e: Run) {
     show_run(c);
     show_run(d);
     show_run(e);
+    show_natural(answer.number() as u64);
+    show_natural(index_of_region(answer) as u64);
+    show_totals(totals_of_region(answer));
+    end_row();
+}
+
+// Asked: a run, which is listed 4,097 times. Answered: number, index, six totals.
+fn array_row(run: Run) {
+    let answer = region_of_array(run);
+    show_label(b"runs-4097");
+    show_run(run);
     show_natural(answer.number() as u64);
     show_natural(index_of_region(answer) as u64);
     show_totals(totals_of_region(answer));
@@ -70,4 +89,5 @@ pub(crate) fn run_rows() {
         run_of(7, 4, 1),
         run_of(8, 0, 2),
     );
+    array_row(empty);
 }
