@@ -10,7 +10,7 @@ use lib.ListN.{length}
 use borrow.Author.Tests.{ltb-true, ltb-false}
 use Rattle.integers.proofs.Searches.{found-holds, none-before, found-at}
 use Rattle.cells.specs.declared.Run.{Run}
-use Rattle.cells.specs.RegionCall.{RegionOutcome, breaksSix, breaksSeven, lowestIndex, regionCall}
+use Rattle.cells.specs.RegionCall.{RegionOutcome, breaksSix, breaksSeven, lowestIndex}
 use Rattle.cells.specs.RegionLaws.{AllKeep, LowestToBreak, IndexIsLowest}
 use Rattle.cells.proofs.RulePlaces.{none-bad, none-disordered}
 use Rattle.cells.proofs.RegionCases.{RegionCase, eight, six, seven, taken, region-case}

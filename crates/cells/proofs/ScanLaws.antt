@@ -1,8 +1,8 @@
 -- What a scan stands for: after each run, what it has found is what the call promises for the runs read so far.
 use mathlib.Core.Path.{_≡_, refl, sym, _∙_, ap}
-use mathlib.Core.Bool.{Bool, true, false, not, _&&_, _||_, cond, or-assoc, or-false, false≢true}
+use mathlib.Core.Bool.{Bool, true, false, not, _&&_, _||_, cond, or-assoc, or-false}
 use mathlib.Core.List.{List, [], _∷_, _++_, append-assoc, append-nil}
-use Prim.Native.Nat.{ℕ, zero, suc, _+_, _-_, _<_, _≤_}
+use Prim.Native.Nat.{ℕ, zero, suc, _+_, _<_, _≤_}
 use native.Mathlib.Omega.{arith}
 use lib.Dec.{leb, ltb, eqb, leb·zero}
 use lib.ListN.{length, length-append, List·getD-append}
@@ -17,7 +17,7 @@ use Rattle.cells.specs.declared.Found.{Found}
 use Rattle.cells.specs.declared.Found.the-variants.{Sums, BadRun, OutOfOrder}
 use Rattle.cells.specs.declared.RegionAnswer.the-variants.{TooManyRuns}
 use Rattle.cells.specs.RunCells.{cellsOf, allCells}
-use Rattle.cells.specs.RegionCall.{emptyRun, badRun, anyBad, liesAfter, disordered, tooMany, runAt, breaksSix, breaksSeven, regionCall, reading}
+use Rattle.cells.specs.RegionCall.{emptyRun, badRun, anyBad, liesAfter, disordered, runAt, breaksSix, breaksSeven, regionCall, reading}
 use Rattle.cells.specs.RegionLaws.{AllKeep, LowestToBreak}
 use Rattle.cells.specs.private.Scan.{held, sumsOf, noRuns, foundWith, addRun, answerOf, SumsSmall, HasRoom}
 use Rattle.cells.proofs.GridLaws.{runs-within}

@@ -16,8 +16,6 @@ use outline::Position;
 use outline_replies::totals_of_end;
 use outline_replies::totals_of_list;
 use outline_replies::totals_of_map;
-use region_replies::index_of_region;
-use region_replies::totals_of_region;
 use show::end_row;
 use show::show_coordinate;
 use show::show_integer;
@@ -83,10 +81,7 @@ fn run_row(first: u32, length: u32) {
     show_label(b"run");
     show_natural(first as u64);
     show_natural(length as u64);
-    show_natural(answer.number() as u64);
-    show_natural(index_of_region(answer) as u64);
-    show_totals(totals_of_region(answer));
-    end_row();
+    run_rows::show_region(answer);
 }
 
 // An open walk handed in. Asked: points, A2. Answered: number, six totals of its end, the sheet's count.

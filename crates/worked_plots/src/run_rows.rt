@@ -1,4 +1,4 @@
-// A list of five runs that is mended run by run, each time at the index answered (document 02, CR 8). Each state of it is a row.
+// A list of five runs that is mended run by run, each time at the index answered (document 02, CR 8), each state of it a row; then the whole array of 4,097 runs.
 ghost use mathlib.Core.Path.{_≡_};
 ghost use mathlib.Core.List.{[], _∷_};
 ghost use lib.ListN.{replicate};
@@ -33,6 +33,14 @@ fn region_of_array(run: Run) -> RegionAnswer
     region_totals_of([run; 4097], 4097)
 }
 
+// What the call on runs answers, to the end of a row: number, index, six totals.
+pub(crate) fn show_region(answer: RegionAnswer) {
+    show_natural(answer.number() as u64);
+    show_natural(index_of_region(answer) as u64);
+    show_totals(totals_of_region(answer));
+    end_row();
+}
+
 // Asked: the five runs. Answered: number, index, six totals.
 fn runs_row(a: Run, b: Run, c: Run, d: Run, e: Run) {
     let answer = region_of_five(a, b, c, d, e);
@@ -42,10 +50,7 @@ fn runs_row(a: Run, b: Run, c: Run, d: Run, e: Run) {
     show_run(c);
     show_run(d);
     show_run(e);
-    show_natural(answer.number() as u64);
-    show_natural(index_of_region(answer) as u64);
-    show_totals(totals_of_region(answer));
-    end_row();
+    show_region(answer);
 }
 
 // Asked: a run, which is listed 4,097 times. Answered: number, index, six totals.
@@ -53,10 +58,7 @@ fn array_row(run: Run) {
     let answer = region_of_array(run);
     show_label(b"runs-4097");
     show_run(run);
-    show_natural(answer.number() as u64);
-    show_natural(index_of_region(answer) as u64);
-    show_totals(totals_of_region(answer));
-    end_row();
+    show_region(answer);
 }
 
 fn run_of(row: u32, first: u32, length: u32) -> Run
