@@ -6,7 +6,8 @@ use lib.IntN.{ℤ, pos}
 use Rattle.outline.specs.declared.Totals.{Totals}
 use Rattle.outline.specs.EdgeSums.{openEdges, edges, sumOver, over, exceed}
 use Rattle.outline.specs.ListCall.{points, numbers, outside, anyOutside, wrongLength, listCall}
-use Rattle.centroid.specs.Centroid.{isCentre, firstCentre, centre, signedBy, outlineCentroidCall}
+use Rattle.integers.specs.Rounding.{roundsTo, firstRounded, roundHalfUp}
+use Rattle.centroid.specs.Centroid.{signedBy, outlineCentroidCall}
 use Rattle.cell_ground.specs.CellSums.{Cell, sumsOver}
 use Rattle.cell_ground.specs.Ground.{groundOf, squaresAdded, rowSums}
 
@@ -69,5 +70,5 @@ record Centres : Type 0 where
   none : centreOf [] ≡ (27, pos 0, pos 0)
 
 centres : Centres
-unfolding over exceed isCentre firstCentre centre signedBy outlineCentroidCall sumsOver groundOf
+unfolding over exceed roundsTo firstRounded roundHalfUp signedBy outlineCentroidCall sumsOver groundOf
 centres = record { run = refl; rows = refl; one-cell = refl; none = refl }

@@ -10,15 +10,16 @@ use Rattle.outline.specs.declared.Totals.{Totals}
 use Rattle.outline.specs.EdgeSums.{exceed}
 use Rattle.outline.specs.MapCall.{totalLimits}
 use Rattle.outline.proofs.Limits.{exceed-fit}
-use Rattle.centroid.specs.Centroid.{CentroidOutcome, refused, centred, isCentre, centre, signedBy, outlineCentroidCall}
-use Rattle.centroid.proofs.CentreLaw.{centre-holds, centre-only}
+use Rattle.integers.specs.Rounding.{roundsTo, roundHalfUp}
+use Rattle.centroid.specs.Centroid.{CentroidOutcome, refused, centred, signedBy, outlineCentroidCall}
+use Rattle.integers.proofs.HalfUp.{half-up-holds, half-up-only}
 use Rattle.centroid.proofs.Limits.{bounds-above, bounds-below}
 
 -- k is the one centre of N and D.
 pub record IsTheCentre (n d k : ℤ) : Type 0 where
   pub above : pos 0 <ℤ d
-  pub holds : isCentre n d k ≡ true
-  pub only : (j : ℤ) → isCentre n d j ≡ true → j ≡ k
+  pub holds : roundsTo n d k ≡ true
+  pub only : (j : ℤ) → roundsTo n d j ≡ true → j ≡ k
 
 -- The outcome of a call whose quotients are of nx and ny over d: a centre, or a refusal with zeros.
 pub record Centred (nx ny d : ℤ) (r : CentroidOutcome) : Type 0 where
@@ -26,8 +27,8 @@ pub record Centred (nx ny d : ℤ) (r : CentroidOutcome) : Type 0 where
   pub y : r .number ≡ 0 → IsTheCentre ny d (r .y)
   pub zeros : r .number ≢ 0 → (r .x ≡ pos 0) × (r .y ≡ pos 0)
 
-the-centre : (n d : ℤ) → pos 0 <ℤ d → IsTheCentre n d (centre n d)
-the-centre n d h = record { above = h; holds = centre-holds n d h; only = λ j e. centre-only n d j h e }
+the-centre : (n d : ℤ) → pos 0 <ℤ d → IsTheCentre n d (roundHalfUp n d)
+the-centre n d h = record { above = h; holds = half-up-holds n d h; only = λ j e. half-up-only n d j h e }
 
 by-tests : (nx ny d : ℤ) (a b : Bool) → (a ≡ false → b ≡ false → pos 0 <ℤ d) → Centred nx ny d (cond a (refused 11) (cond b (refused 27) (centred nx ny d)))
 by-tests nx ny d true b h = record { x = λ e. absurd (omega arith); y = λ e. absurd (omega arith); zeros = λ _. (refl, refl) }

@@ -6,7 +6,7 @@ use lib.IntN.{ℤ, pos, negsuc}
 use lib.ListN.{replicate}
 use Rattle.outline.specs.declared.Totals.{Totals}
 use Rattle.outline.specs.EdgeSums.{over, exceed}
-use Rattle.centroid.specs.Centroid.{isCentre, firstCentre, centre, outlineCentroidCall}
+use Rattle.centroid.specs.Centroid.{outlineCentroidCall}
 use Rattle.centroid.proofs.WorkedCentres.{totals}
 
 -- Six totals of which one is z and the others are 0: each of the six in turn, the area first.
@@ -33,10 +33,3 @@ record Outlines : Type 0 where
 outline-numbers : Outlines
 unfolding over exceed outlineCentroidCall
 outline-numbers = record { none = refl; one = refl; minus-one = refl; largest = refl; one-above = refl; least = refl; one-below = refl }
-
--- ---- the quotient: from -6/4 to 6/4
-
-quarters : map (λ n. centre n (pos 4)) (negsuc 5 ∷ negsuc 4 ∷ negsuc 3 ∷ negsuc 2 ∷ negsuc 1 ∷ negsuc 0 ∷ pos 0 ∷ pos 1 ∷ pos 2 ∷ pos 3 ∷ pos 4 ∷ pos 5 ∷ pos 6 ∷ [])
-    ≡ negsuc 0 ∷ negsuc 0 ∷ negsuc 0 ∷ negsuc 0 ∷ pos 0 ∷ pos 0 ∷ pos 0 ∷ pos 0 ∷ pos 1 ∷ pos 1 ∷ pos 1 ∷ pos 1 ∷ pos 2 ∷ []
-unfolding isCentre firstCentre centre
-quarters = refl

@@ -1,5 +1,4 @@
 pub mod CallLaws
-pub mod CentreLaw
 pub mod ReadingLaw
 pub mod WorkedCentres
 pub mod CentreLimits

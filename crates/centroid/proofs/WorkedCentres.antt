@@ -5,7 +5,8 @@ use lib.IntN.{ℤ, pos, negsuc}
 use Rattle.outline.specs.declared.Totals.{Totals}
 use Rattle.outline.specs.EdgeSums.{outlineTotals, edges, openEdges, sumOver, zeros, over, exceed}
 use Rattle.outline.specs.ListCall.{points}
-use Rattle.centroid.specs.Centroid.{CentroidOutcome, refused, isCentre, firstCentre, centre, outlineCentroidCall, signedBy}
+use Rattle.integers.specs.Rounding.{roundsTo, firstRounded, roundHalfUp}
+use Rattle.centroid.specs.Centroid.{CentroidOutcome, refused, outlineCentroidCall, signedBy}
 
 abbrev at : ℤ → ℤ → CentroidOutcome
 at x y = record { number = 0; x = x; y = y }
@@ -17,39 +18,29 @@ ofPoints zs = outlineCentroidCall (outlineTotals (points zs))
 abbrev pub totals : ℤ → ℤ → ℤ → ℤ → ℤ → ℤ → Totals
 totals a2 x6 y6 xx12 xy24 yy12 = record { a2 = a2; x6 = x6; y6 = y6; xx12 = xx12; xy24 = xy24; yy12 = yy12 }
 
--- ---- halves go up: document 01, "Errors a surveyor would not notice"
-
-half : centre (pos 1) (pos 2) ≡ pos 1
-unfolding isCentre firstCentre centre
-half = refl
-
-minus-three-halves : centre (negsuc 2) (pos 2) ≡ negsuc 0
-unfolding isCentre firstCentre centre
-minus-three-halves = refl
-
 -- ---- outlines
 
 unit-square : outlineCentroidCall (totals (pos 2) (pos 3) (pos 3) (pos 4) (pos 6) (pos 4)) ≡ at (pos 1) (pos 1)
-unfolding isCentre firstCentre centre outlineCentroidCall signedBy over exceed
+unfolding roundsTo firstRounded roundHalfUp outlineCentroidCall signedBy over exceed
 unit-square = refl
 
 -- (-1,0) (0,0) (0,1) (-1,1): x is -1/2, and a half goes up to 0
 square-at-minus-one : ofPoints (negsuc 0 ∷ pos 0 ∷ pos 0 ∷ pos 0 ∷ pos 0 ∷ pos 1 ∷ negsuc 0 ∷ pos 1 ∷ []) ≡ at (pos 0) (pos 1)
-unfolding points edges openEdges sumOver isCentre firstCentre centre outlineCentroidCall signedBy over exceed
+unfolding points edges openEdges sumOver roundsTo firstRounded roundHalfUp outlineCentroidCall signedBy over exceed
 square-at-minus-one = refl
 
 -- the same, walked backwards: A2 is -2 and X6 is 3
 reversed-square : ofPoints (negsuc 0 ∷ pos 1 ∷ pos 0 ∷ pos 1 ∷ pos 0 ∷ pos 0 ∷ negsuc 0 ∷ pos 0 ∷ []) ≡ at (pos 0) (pos 1)
-unfolding points edges openEdges sumOver isCentre firstCentre centre outlineCentroidCall signedBy over exceed
+unfolding points edges openEdges sumOver roundsTo firstRounded roundHalfUp outlineCentroidCall signedBy over exceed
 reversed-square = refl
 
 -- A2 is -2, X6 is 9 and Y6 is -27: the signs are turned before a half goes up, from -3/2 to -1 and from 9/2 to 5
 area-below-0 : outlineCentroidCall (totals (negsuc 1) (pos 9) (negsuc 26) (pos 0) (pos 0) (pos 0)) ≡ at (negsuc 0) (pos 5)
-unfolding isCentre firstCentre centre outlineCentroidCall signedBy over exceed
+unfolding roundsTo firstRounded roundHalfUp outlineCentroidCall signedBy over exceed
 area-below-0 = refl
 
 rectangle : ofPoints (pos 2 ∷ pos 0 ∷ pos 10 ∷ pos 4 ∷ pos 8 ∷ pos 8 ∷ pos 0 ∷ pos 4 ∷ []) ≡ at (pos 5) (pos 4)
-unfolding points edges openEdges sumOver isCentre firstCentre centre outlineCentroidCall signedBy over exceed
+unfolding points edges openEdges sumOver roundsTo firstRounded roundHalfUp outlineCentroidCall signedBy over exceed
 rectangle = refl
 
 -- the figure eight: no area, though X6 is -8
@@ -66,15 +57,15 @@ no-area = refl
 
 -- the run in row 3 from column 2, of length 3: 63/18 is 7/2, and a half goes up. The sum of x over the number of cells would give 3.
 run : outlineCentroidCall (totals (pos 6) (pos 63) (pos 63) (pos 468) (pos 882) (pos 444)) ≡ at (pos 4) (pos 4)
-unfolding isCentre firstCentre centre outlineCentroidCall signedBy over exceed
+unfolding roundsTo firstRounded roundHalfUp outlineCentroidCall signedBy over exceed
 run = refl
 
 -- the runs of length 3 in row 0 and of length 1 in row 1, both from column 0: 5/4 and 3/4
 two-runs : outlineCentroidCall (totals (pos 8) (pos 30) (pos 18) (pos 112) (pos 72) (pos 40)) ≡ at (pos 1) (pos 1)
-unfolding isCentre firstCentre centre outlineCentroidCall signedBy over exceed
+unfolding roundsTo firstRounded roundHalfUp outlineCentroidCall signedBy over exceed
 two-runs = refl
 
 -- the cells (1,0) and (2,1): x and y differ
 two-cells : outlineCentroidCall (totals (pos 4) (pos 24) (pos 12) (pos 104) (pos 108) (pos 32)) ≡ at (pos 2) (pos 1)
-unfolding isCentre firstCentre centre outlineCentroidCall signedBy over exceed
+unfolding roundsTo firstRounded roundHalfUp outlineCentroidCall signedBy over exceed
 two-cells = refl

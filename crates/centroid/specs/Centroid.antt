@@ -1,28 +1,13 @@
 -- Document 01, "Centre" and the refusals 11 and 27: the centre of six totals. Cells follow the outline rule (document 02, CR 2).
-use Prim.Native.Nat.{ℕ, zero, suc, _*_}
-use mathlib.Core.Bool.{Bool, _&&_, cond}
+use Prim.Native.Nat.{ℕ}
+use mathlib.Core.Bool.{cond}
 use lib.Dec.{eqb}
-use lib.IntN.{ℤ, pos, negℤ, natAbs, _+ℤ_, _-ℤ_, _*ℤ_}
-use lib.Signed.{leZ, ltZ}
+use lib.IntN.{ℤ, pos, negℤ, natAbs, _*ℤ_}
+use lib.Signed.{ltZ}
+use Rattle.integers.specs.Rounding.{roundHalfUp}
 use Rattle.outline.specs.declared.Totals.{Totals}
 use Rattle.outline.specs.EdgeSums.{exceed}
 use Rattle.outline.specs.MapCall.{totalLimits}
-
--- ---- the quotient of N and D, rounded to a whole number
-
--- k is the centre of N and D: 2×k×D − D ≤ 2×N < 2×k×D + D, so that a half goes up.
-unfoldable pub isCentre : ℤ → ℤ → ℤ → Bool
-isCentre n d k = leZ (pos 2 *ℤ k *ℤ d -ℤ d) (pos 2 *ℤ n) && ltZ (pos 2 *ℤ n) (pos 2 *ℤ k *ℤ d +ℤ d)
-
--- The first centre of N and D among `count` whole numbers from k on, and 0 where there is none.
-unfoldable pub firstCentre : ℤ → ℤ → ℤ → ℕ → ℤ
-firstCentre n d k zero = pos 0
-firstCentre n d k (suc count) = cond (isCentre n d k) k (firstCentre n d (k +ℤ pos 1) count)
-
--- The centre of N and D, looked for from −|N| to |N|: D is at least 1, so the quotient is no greater in size than N.
--- For every such D it is the one whole number that `isCentre` holds of (proofs/CentreLaw).
-unfoldable pub centre : ℤ → ℤ → ℤ
-centre n d = firstCentre n d (negℤ (pos (natAbs n))) (suc (2 * natAbs n))
 
 -- ---- outcomes
 
@@ -37,7 +22,7 @@ refused n = record { number = n; x = pos 0; y = pos 0 }
 
 -- The centre's x and y, each from its own N, over one D. In decimetres: the side of a cell counts as one.
 abbrev pub centred : ℤ → ℤ → ℤ → CentroidOutcome
-centred nx ny d = record { number = 0; x = centre nx d; y = centre ny d }
+centred nx ny d = record { number = 0; x = roundHalfUp nx d; y = roundHalfUp ny d }
 
 -- z, negated if A2 is negative.
 unfoldable pub signedBy : ℤ → ℤ → ℤ

@@ -1,6 +1,7 @@
 // The centre of six totals: an exact quotient, rounded to a whole number with halves up.
 ghost use mathlib.Core.Path.{_≡_};
-ghost use Rattle.centroid.specs.Centroid.{centre, centred, outlineCentroidCall};
+ghost use Rattle.integers.specs.Rounding.{roundHalfUp};
+ghost use Rattle.centroid.specs.Centroid.{centred, outlineCentroidCall};
 ghost use Rattle.centroid.specs.Answers.{reading};
 ghost use Rattle.centroid.specs.private.Quotient.{QuotientBounds};
 
@@ -27,7 +28,7 @@ impl CentroidAnswer {
 // n / d, halves rounded up: (2n + d) / 2d, rounded down. Division rounds toward zero, so a negative remainder takes 1 off.
 fn nearest(n: i64, d: i64) -> i64
     requires { ⌜ QuotientBounds n d ⌝ }
-    ensures { λ r. ⌜ r ≡ centre n d ⌝ }
+    ensures { λ r. ⌜ r ≡ roundHalfUp n d ⌝ }
 {
     let dividend = 2 * n + d;
     let divisor = 2 * d;

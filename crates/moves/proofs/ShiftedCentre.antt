@@ -15,7 +15,7 @@ use Rattle.outline.proofs.IndexLaws.{points-numbers}
 use Rattle.outline.proofs.Limits.{accepts-only-outlines, accepted-within, exceed-fit, fit-exceed, limits-fit}
 use Rattle.outline.proofs.MapLaw.{map-law}
 use Rattle.centroid.specs.Centroid.{CentroidOutcome, refused, signedBy, outlineCentroidCall}
-use Rattle.centroid.proofs.CentreLaw.{centre-moves}
+use Rattle.integers.proofs.HalfUp.{half-up-moves}
 use Rattle.centroid.proofs.CallLaws.{IsTheCentre, outline-centre}
 use Rattle.moves.specs.ShiftedCentre.{shift, unitsPerDecimetre, shiftedBy, HasCentre, TotalsShifted, CallShifted, OutlineShifted}
 use Rattle.moves.proofs.MovedTwice.{map-accepted}
@@ -34,7 +34,7 @@ shifted-moment a2 m e = go (ltZ a2 (pos 0))
 -- The centre before and the one after, where the first moment and the area are what a shift by e leaves.
 one-coordinate : (a2 m e a2′ m′ k k′ : ℤ) → a2′ ≡ a2 → m′ ≡ m +ℤ pos 3 *ℤ e *ℤ a2 → IsTheCentre (signedBy a2 m) (signedBy a2 (pos 3 *ℤ a2)) k → IsTheCentre (signedBy a2′ m′) (signedBy a2′ (pos 3 *ℤ a2′)) k′ → k′ ≡ k +ℤ unitsPerDecimetre *ℤ e
 one-coordinate a2 m e a2′ m′ k k′ p q before after =
-    sym (after .only (k +ℤ unitsPerDecimetre *ℤ e) (rw (p, q, shifted-moment a2 m e) (centre-moves (signedBy a2 m) (signedBy a2 (pos 3 *ℤ a2)) k (unitsPerDecimetre *ℤ e) (before .holds))))
+    sym (after .only (k +ℤ unitsPerDecimetre *ℤ e) (rw (p, q, shifted-moment a2 m e) (half-up-moves (signedBy a2 m) (signedBy a2 (pos 3 *ℤ a2)) k (unitsPerDecimetre *ℤ e) (before .holds))))
 
 -- ---- any six totals
 

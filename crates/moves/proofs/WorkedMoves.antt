@@ -9,7 +9,8 @@ use Rattle.outline.specs.ListCall.{accepted, refused}
 use Rattle.outline.specs.MapCall.{movePoint, mapped, disallowed, mapCall}
 use Rattle.outline.proofs.PiecesLaws.{identity}
 use Rattle.outline.proofs.WorkedInputs.{at, doubling}
-use Rattle.centroid.specs.Centroid.{refused as noCentre, isCentre, firstCentre, centre, signedBy, outlineCentroidCall}
+use Rattle.integers.specs.Rounding.{roundsTo, firstRounded, roundHalfUp}
+use Rattle.centroid.specs.Centroid.{refused as noCentre, signedBy, outlineCentroidCall}
 use Rattle.centroid.proofs.WorkedCentres.{totals}
 use Rattle.moves.specs.Composition.{composed}
 use Rattle.moves.specs.ShiftedCentre.{shift, shiftedBy}
@@ -129,5 +130,5 @@ pub record Shifted : Type 0 where
   past-limits : shiftedBy (pos 3) (minus 2) (noCentre 11) ≡ noCentre 11
 
 pub worked-shifts : Shifted
-unfolding isCentre firstCentre centre signedBy outlineCentroidCall over exceed
+unfolding roundsTo firstRounded roundHalfUp signedBy outlineCentroidCall over exceed
 worked-shifts = record { rectangle-before = refl; rectangle-after = refl; backwards-before = refl; backwards-after = refl; limit-before = refl; limit-after = refl; limit-back = refl; by-shift = refl; no-area = refl; past-limits = refl }

@@ -16,7 +16,8 @@ use Rattle.outline.specs.EdgeSums.{exceed}
 use Rattle.outline.specs.MapCall.{totalLimit, totalLimits}
 use Rattle.outline.specs.private.Fit.{Fit}
 use Rattle.outline.proofs.Limits.{exceed-fit}
-use Rattle.centroid.specs.Centroid.{CentroidOutcome, isCentre, firstCentre, centre, centred, signedBy, outlineCentroidCall}
+use Rattle.integers.specs.Rounding.{roundsTo, firstRounded, roundHalfUp}
+use Rattle.centroid.specs.Centroid.{CentroidOutcome, centred, signedBy, outlineCentroidCall}
 use Rattle.decimals.proofs.FieldLaws.{natural-length, field-length}
 use Rattle.printing.specs.Output.{totalsText, centreText, outlineLine, refusalLine, sheetLine}
 use Rattle.printing.specs.Buffer.{lineRoom}
@@ -44,22 +45,22 @@ between n (pos a) h l = omega arith
 between n (negsuc a) h l = omega arith
 
 -- A centre is looked for from -n to n only.
-first-size : (n : ℕ) (num d k : ℤ) (count : ℕ) → nn k ≤ n + pp k → pp k + count ≤ suc n + nn k → natAbs (firstCentre num d k count) ≤ n
-unfolding firstCentre
+first-size : (n : ℕ) (num d k : ℤ) (count : ℕ) → nn k ≤ n + pp k → pp k + count ≤ suc n + nn k → natAbs (firstRounded num d k count) ≤ n
+unfolding firstRounded
 first-size n num d k zero h l = omega arith
 first-size n num d k (suc count) h l =
-    by-cond (λ z. natAbs z ≤ n) (isCentre num d k)
+    by-cond (λ z. natAbs z ≤ n) (roundsTo num d k)
     (λ e. between n k h (omega arith))
     (λ e. first-size n num d (k +ℤ pos 1) count (omega (arith, sum-parts k (pos 1))) (omega (arith, sum-parts k (pos 1))))
 
 -- So a centre is no greater than its N.
-centre-size : (n d : ℤ) → natAbs (centre n d) ≤ natAbs n
-unfolding centre
+centre-size : (n d : ℤ) → natAbs (roundHalfUp n d) ≤ natAbs n
+unfolding roundHalfUp
 centre-size n d = let a = pos (natAbs n) in first-size (natAbs n) n d (negℤ a) (suc (2 * natAbs n)) (omega (arith, nn-neg a)) (omega (arith, pp-neg a, nn-neg a))
 
 centred-length : (nx ny d : ℤ) → natAbs nx ≤ totalLimit → natAbs ny ≤ totalLimit → length (centreText (centred nx ny d)) ≤ 42
 unfolding centreText
-centred-length nx ny d h k = simp length-append (omega (arith, field-length 18 (centre nx d) (omega (arith, centre-size nx d)), field-length 18 (centre ny d) (omega (arith, centre-size ny d))))
+centred-length nx ny d h k = simp length-append (omega (arith, field-length 18 (roundHalfUp nx d) (omega (arith, centre-size nx d)), field-length 18 (roundHalfUp ny d) (omega (arith, centre-size ny d))))
 
 signed-size : (a z : ℤ) → natAbs z ≤ totalLimit → natAbs (signedBy a z) ≤ totalLimit
 unfolding signedBy

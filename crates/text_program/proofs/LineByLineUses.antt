@@ -13,7 +13,8 @@ use Rattle.outline.specs.ListCall.{points, numbers, outside, anyOutside, wrongL
 use Rattle.outline.specs.WalkCalls.{closed, newSheet, extended, hasSign, turned, zeroArea, impossibleWalk, impossibleSheet, beginCall, pointCall, endCall}
 use Rattle.outline.specs.CallLists as Calls
 use Rattle.outline.specs.CallLists.{Trace, from, numberOf, walkAfter, ringWith, next}
-use Rattle.centroid.specs.Centroid.{isCentre, firstCentre, centre, signedBy, outlineCentroidCall}
+use Rattle.integers.specs.Rounding.{roundsTo, firstRounded, roundHalfUp}
+use Rattle.centroid.specs.Centroid.{signedBy, outlineCentroidCall}
 use Rattle.text_numbers.specs.Numbers as Numbers
 use Rattle.text_numbers.specs.Numbers.{allDigits, valueFrom, leadingZero, isNatural, naturalOf}
 use Rattle.parsing.specs.Grammar.{begin, point, withFirst, fields, isByte, letterOf, pointOf, formOfFields, formOf}
@@ -34,7 +35,7 @@ abbrev ones : Totals
 ones = record { a2 = pos 1; x6 = pos 1; y6 = pos 1; xx12 = pos 1; xy24 = pos 1; yy12 = pos 1 }
 
 by-cases : Output (from closed) newSheet (linesFrom 0 0 [] input) output
-unfolding openEdges edges sumOver over exceed points numbers outside anyOutside wrongLength listCall extended hasSign turned zeroArea impossibleWalk impossibleSheet beginCall pointCall endCall numberOf walkAfter ringWith next isCentre firstCentre centre signedBy outlineCentroidCall allDigits valueFrom leadingZero isNatural naturalOf Numbers.numberOf withFirst fields isByte letterOf pointOf formOfFields formOf digits decimal signed totalsText centreText outlineLine refusalLine sheetLine linesFrom tooFar callOf isEnd
+unfolding openEdges edges sumOver over exceed points numbers outside anyOutside wrongLength listCall extended hasSign turned zeroArea impossibleWalk impossibleSheet beginCall pointCall endCall numberOf walkAfter ringWith next roundsTo firstRounded roundHalfUp signedBy outlineCentroidCall allDigits valueFrom leadingZero isNatural naturalOf Numbers.numberOf withFirst fields isByte letterOf pointOf formOfFields formOf digits decimal signed totalsText centreText outlineLine refusalLine sheetLine linesFrom tooFar callOf isEnd
 by-cases =
     near _ _ refl (silent (Calls.begin Hole) refl (not-end (begin Hole) refl) refl)
     (near _ _ refl (silent (Calls.point (record { x = pos 0; y = pos 0 })) refl (not-end (point (pos 0) (pos 0)) refl) refl)

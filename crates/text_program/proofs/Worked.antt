@@ -12,7 +12,8 @@ use Rattle.outline.specs.declared.Totals.{Totals}
 use Rattle.outline.specs.EdgeSums.{over, exceed}
 use Rattle.outline.specs.ListCall.{outside}
 use Rattle.outline.specs.WalkCalls.{extended, hasSign, turned, zeroArea, impossibleWalk, impossibleSheet, beginCall, pointCall, endCall}
-use Rattle.centroid.specs.Centroid.{isCentre, signedBy, outlineCentroidCall}
+use Rattle.integers.specs.Rounding.{roundsTo}
+use Rattle.centroid.specs.Centroid.{signedBy, outlineCentroidCall}
 use Rattle.centroid.proofs.CallLaws.{outline-centre}
 use Rattle.centroid.proofs.WorkedCentres.{totals}
 use Rattle.text_numbers.specs.Numbers.{allDigits, valueFrom, leadingZero, isNatural, naturalOf, numberOf}
@@ -41,7 +42,7 @@ empty-input = refl
 -- ---- the listing
 
 -- What an O or an S line ends with, by two numbers that pass the tests of the centre: to search for it would take long.
-pub figures : (t : Totals) (x y : ℤ) → outlineCentroidCall t .number ≡ 0 → (let d = signedBy (t .a2) (pos 3 *ℤ t .a2) in isCentre (signedBy (t .a2) (t .x6)) d x ≡ true → isCentre (signedBy (t .a2) (t .y6)) d y ≡ true → figuresText t ≡ totalsText t ++ (field x ++ field y) ++ 10 ∷ [])
+pub figures : (t : Totals) (x y : ℤ) → outlineCentroidCall t .number ≡ 0 → (let d = signedBy (t .a2) (pos 3 *ℤ t .a2) in roundsTo (signedBy (t .a2) (t .x6)) d x ≡ true → roundsTo (signedBy (t .a2) (t .y6)) d y ≡ true → figuresText t ≡ totalsText t ++ (field x ++ field y) ++ 10 ∷ [])
 unfolding centreText
 figures t x y e f g =
     let c = outline-centre t in
@@ -69,7 +70,7 @@ abbrev withFivePoints : Totals
 withFivePoints = totals (pos 82) (pos 1210) (pos 966) (pos 14754) (pos 21160) (pos 8974)
 
 pub listing-output : (program (text listing) ≡ text listed) × (program (text (listing ++ "E" ∷ [])) ≡ text ended)
-unfolding over exceed outside extended hasSign turned zeroArea impossibleWalk impossibleSheet beginCall pointCall endCall isCentre signedBy outlineCentroidCall allDigits valueFrom leadingZero isNatural naturalOf numberOf withFirst fields isByte letterOf pointOf formOfFields formOf digits decimal signed totalsText outlineLine refusalLine sheetLine linesFrom tooFar carriedWalk carriedEnd carryOut outputOf program
+unfolding over exceed outside extended hasSign turned zeroArea impossibleWalk impossibleSheet beginCall pointCall endCall roundsTo signedBy outlineCentroidCall allDigits valueFrom leadingZero isNatural naturalOf numberOf withFirst fields isByte letterOf pointOf formOfFields formOf digits decimal signed totalsText outlineLine refusalLine sheetLine linesFrom tooFar carriedWalk carriedEnd carryOut outputOf program
 listing-output =
     let first = figures rectangle (pos 5) (pos 4) refl refl refl in
     let second = figures fivePoints (pos 2) (pos 1) refl refl refl in

@@ -7,7 +7,8 @@ use Rattle.outline.specs.declared.Totals.{Totals}
 use Rattle.outline.specs.EdgeSums.{negated, over, exceed}
 use Rattle.outline.specs.ListCall.{outside}
 use Rattle.outline.specs.WalkCalls.{sheetOf, extended, hasSign, turned, zeroArea, impossibleWalk, impossibleSheet, beginCall, pointCall, endCall}
-use Rattle.centroid.specs.Centroid.{isCentre, signedBy, outlineCentroidCall}
+use Rattle.integers.specs.Rounding.{roundsTo}
+use Rattle.centroid.specs.Centroid.{signedBy, outlineCentroidCall}
 use Rattle.centroid.proofs.WorkedCentres.{totals}
 use Rattle.text_numbers.specs.Numbers.{allDigits, valueFrom, leadingZero, isNatural, naturalOf, numberOf}
 use Rattle.parsing.specs.Grammar.{withFirst, fields, isByte, letterOf, pointOf, formOfFields, formOf}
@@ -29,7 +30,7 @@ abbrev printed : List String
 printed = "O 1 4 80 1200 960 14720 21120 8960 5 4" ∷ "O 2 3 -5 -75 -50 -755 -1005 -345 5 3" ∷ "S 2 75 1125 910 13965 20115 8615 5 4" ∷ []
 
 their-text : outlineLine 1 4 rectangle ++ (outlineLine 2 3 pond ++ sheetLine (sheetOf 2 withPond)) ≡ text printed
-unfolding over exceed isCentre signedBy outlineCentroidCall digits decimal signed totalsText outlineLine sheetLine
+unfolding over exceed roundsTo signedBy outlineCentroidCall digits decimal signed totalsText outlineLine sheetLine
 their-text =
     let first = figures rectangle (pos 5) (pos 4) refl refl refl in
     let second = figures pond (pos 5) (pos 3) refl refl refl in
@@ -54,7 +55,7 @@ abbrev twice : List String
 twice = "B" ∷ "B H" ∷ "P 2 0" ∷ "P 10 4" ∷ "P 8 8" ∷ "P 0 4" ∷ "E" ∷ "B H" ∷ "B" ∷ "P 2 0" ∷ "P 10 4" ∷ "P 8 8" ∷ "P 0 4" ∷ "E" ∷ []
 
 pub no-area-left : program (text twice) ≡ text ("R 2 22" ∷ "O 1 4 80 1200 960 14720 21120 8960 5 4" ∷ "R 9 22" ∷ "O 2 4 -80 -1200 -960 -14720 -21120 -8960 5 4" ∷ "S 2 0 0 0 0 0 0 - -" ∷ [])
-unfolding over exceed outside extended hasSign turned zeroArea impossibleWalk impossibleSheet beginCall pointCall endCall isCentre signedBy outlineCentroidCall allDigits valueFrom leadingZero isNatural naturalOf numberOf withFirst fields isByte letterOf pointOf formOfFields formOf digits decimal signed totalsText centreText outlineLine refusalLine sheetLine linesFrom tooFar carriedWalk carriedEnd carryOut outputOf program
+unfolding over exceed outside extended hasSign turned zeroArea impossibleWalk impossibleSheet beginCall pointCall endCall roundsTo signedBy outlineCentroidCall allDigits valueFrom leadingZero isNatural naturalOf numberOf withFirst fields isByte letterOf pointOf formOfFields formOf digits decimal signed totalsText centreText outlineLine refusalLine sheetLine linesFrom tooFar carriedWalk carriedEnd carryOut outputOf program
 no-area-left =
     let first = figures rectangle (pos 5) (pos 4) refl refl refl in
     let second = figures (negated rectangle) (pos 5) (pos 4) refl refl refl in

@@ -13,7 +13,7 @@ use Rattle.outline.specs.Pieces.{totalsOf}
 use Rattle.outline.specs.declared.Position.{Position}
 use Rattle.two_walks.specs.Distances.{squaredDistance, greatestOf}
 use Rattle.cell_ground.specs.CellSums.{CellSums, sumsOver}
-use Rattle.centroid.specs.Centroid.{isCentre, firstCentre, centre}
+use Rattle.integers.specs.Rounding.{roundsTo, firstRounded, roundHalfUp}
 use Rattle.cells.specs.RunCells.{cellsFrom, cellsOf}
 use Rattle.worked_rows.specs.Rows.{rectangle, repeatedFirst, triangle, unitSquare, mirror, shortRun, inStep, outOfStep}
 
@@ -73,12 +73,12 @@ record MistakenGround : Type 0 where
   -- XY24 is 882.
   six-for-twelve : pos 24 *ℤ runSums .xy +ℤ pos 6 *ℤ runSums .x +ℤ pos 6 *ℤ runSums .y +ℤ pos 6 *ℤ runSums .count ≡ pos 774
   -- The centre is (4, 4).
-  cells-as-points : (centre (runSums .x) (runSums .count) ≡ pos 3) × (centre (runSums .y) (runSums .count) ≡ pos 3)
+  cells-as-points : (roundHalfUp (runSums .x) (runSums .count) ≡ pos 3) × (roundHalfUp (runSums .y) (runSums .count) ≡ pos 3)
   -- A2 is 8. For one run the error does not show.
   bounding-box : sumOver a2 (edges box) ≡ pos 12
 
 mistaken-ground : MistakenGround
-unfolding openEdges edges sumOver isCentre firstCentre centre cellsFrom cellsOf sumsOver
+unfolding openEdges edges sumOver roundsTo firstRounded roundHalfUp cellsFrom cellsOf sumsOver
 mistaken-ground =
     record {
       constant-added-once = (refl, refl);

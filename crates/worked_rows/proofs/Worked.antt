@@ -10,7 +10,8 @@ use Rattle.outline.specs.CallLists.{numberOf, walkAfter, ringWith, next, after,
 use Rattle.outline.proofs.Every.{All}
 use Rattle.two_walks.specs.Distances.{squaredDistance, leastOf, greatestOf, toNearest, squaredHausdorff}
 use Rattle.two_walks.specs.Comparison.{comparisonNumber, figuresCall, partOf}
-use Rattle.centroid.specs.Centroid.{isCentre, firstCentre, centre, signedBy, outlineCentroidCall}
+use Rattle.integers.specs.Rounding.{roundsTo, firstRounded, roundHalfUp}
+use Rattle.centroid.specs.Centroid.{signedBy, outlineCentroidCall}
 use Rattle.cell_ground.specs.CellSums.{sumsOver}
 use Rattle.cell_ground.specs.Ground.{groundOf}
 use Rattle.cells.specs.RunCells.{cellsFrom, cellsOf, allCells}
@@ -19,7 +20,7 @@ use Rattle.worked_rows.specs.Rows.{holds, rows, ringRows, walkRows, move
 use Rattle.worked_rows.specs.RunRows.{mendedRows}
 
 pub worked : All holds rows
-unfolding openEdges edges sumOver over exceed points numbers outside anyOutside wrongLength listCall disallowed mapCall neighbours canCut cutOnce cutAll isCentre firstCentre centre signedBy outlineCentroidCall cellsFrom cellsOf allCells sumsOver groundOf badRun anyBad disordered tooMany regionCall holds
+unfolding openEdges edges sumOver over exceed points numbers outside anyOutside wrongLength listCall disallowed mapCall neighbours canCut cutOnce cutAll roundsTo firstRounded roundHalfUp signedBy outlineCentroidCall cellsFrom cellsOf allCells sumsOver groundOf badRun anyBad disordered tooMany regionCall holds
 worked = (refl, (refl, (refl, (refl, (refl, (refl, (refl, (refl, (refl, (refl, (refl, (refl, (refl, tt)))))))))))))
 
 -- The rings of document 02, CR 3.
@@ -34,7 +35,7 @@ walk-rows = (refl, (refl, (refl, (refl, (refl, (refl, (refl, (refl, (refl, (refl
 
 -- The moves of document 02, CR 7.
 pub move-rows : All holds moveRows
-unfolding openEdges edges sumOver over exceed points numbers outside anyOutside wrongLength listCall disallowed mapCall isCentre firstCentre centre signedBy outlineCentroidCall holds
+unfolding openEdges edges sumOver over exceed points numbers outside anyOutside wrongLength listCall disallowed mapCall roundsTo firstRounded roundHalfUp signedBy outlineCentroidCall holds
 move-rows = (refl, (refl, (refl, (refl, (refl, (refl, (refl, (refl, (refl, (refl, tt))))))))))
 
 -- The mended list of document 02, CR 8.
@@ -44,5 +45,5 @@ mended-rows = (refl, (refl, (refl, (refl, (refl, (refl, tt))))))
 
 -- The rows for "Errors a surveyor would not notice".
 pub error-rows : All holds errorRows
-unfolding openEdges edges sumOver over exceed points numbers outside anyOutside wrongLength listCall disallowed mapCall isCentre firstCentre centre signedBy outlineCentroidCall cellsFrom cellsOf allCells sumsOver groundOf badRun anyBad liesAfter disordered tooMany regionCall squaredDistance leastOf greatestOf toNearest squaredHausdorff comparisonNumber figuresCall holds
+unfolding openEdges edges sumOver over exceed points numbers outside anyOutside wrongLength listCall disallowed mapCall roundsTo firstRounded roundHalfUp signedBy outlineCentroidCall cellsFrom cellsOf allCells sumsOver groundOf badRun anyBad liesAfter disordered tooMany regionCall squaredDistance leastOf greatestOf toNearest squaredHausdorff comparisonNumber figuresCall holds
 error-rows = (refl, (refl, (refl, (refl, (refl, (refl, (refl, (refl, tt))))))))

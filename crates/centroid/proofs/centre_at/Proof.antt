@@ -5,12 +5,12 @@ use lib.IntN.{ℤ}
 use mir.Syntax.{w64}
 use mir.Val.{toZ, ofZ, SFits}
 use mir.Facts.{toZ-ofZ}
-use Rattle.centroid.specs.Centroid.{centre}
+use Rattle.integers.specs.Rounding.{roundHalfUp}
 use Rattle.centroid.proofs.centre_at.Statement.{statement}
 use Rattle.centroid.proofs.centre_at.Tie as tie
 
 -- a quotient as the machine holds it, of an N and a D as it holds them
-quotient : {n d r : ℤ} → SFits w64 n → SFits w64 d → SFits w64 r → r ≡ centre (toZ w64 (ofZ w64 n)) (toZ w64 (ofZ w64 d)) → toZ w64 (ofZ w64 r) ≡ centre n d
+quotient : {n d r : ℤ} → SFits w64 n → SFits w64 d → SFits w64 r → r ≡ roundHalfUp (toZ w64 (ofZ w64 n)) (toZ w64 (ofZ w64 d)) → toZ w64 (ofZ w64 r) ≡ roundHalfUp n d
 quotient f g h e = rw (toZ-ofZ h, e, toZ-ofZ f, toZ-ofZ g)
 
 nearest-requires : tie.Need-nearest-requires

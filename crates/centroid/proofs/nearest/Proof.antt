@@ -10,7 +10,7 @@ use Rattle.integers.proofs.Order.{lt-parts}
 use Rattle.integers.proofs.Linear.{→<}
 use Rattle.integers.proofs.SignedCode.{code, test}
 use Rattle.integers.proofs.SizedNumbers.{Sized, sized, fits, is-plain, divisor, plain-test}
-use Rattle.centroid.proofs.CentreLaw.{rounded-down}
+use Rattle.integers.proofs.HalfUp.{rounded-down}
 use Rattle.centroid.proofs.nearest.Statement.{statement}
 use Rattle.centroid.proofs.nearest.Tie as tie
 
