@@ -6,6 +6,7 @@ use mathlib.Core.List.{List, [], _∷_}
 use native.Mathlib.Omega.{arith}
 use borrow.Author.Tests.{ne-eqb}
 use denote.Enum.Declared.{tagOf}
+use lib.Ieee.{Float}
 use types.Run.{OneOf}
 use Rattle.outline.specs.declared.Totals.{Totals}
 use Rattle.outline.specs.declared.Walk.{Walk}
@@ -23,7 +24,7 @@ use Rattle.lines.specs.LineOutcome.{Finished}
 
 -- Every answer but the first is a refusal, and no refusal has the number 0.
 refusal-numbered : (a : EndAnswer) → OneOf (1 ∷ 2 ∷ 3 ∷ 4 ∷ 5 ∷ 6 ∷ []) (tagOf the-type a) → endNumber a ≡ 0 → ⊥
-refusal-numbered (Accepted t) k e = ⊎-elim (λ h. omega arith) (⊎-elim (λ h. omega arith) (⊎-elim (λ h. omega arith) (⊎-elim (λ h. omega arith) (⊎-elim (λ h. omega arith) (λ h. omega arith))))) k
+refusal-numbered (Accepted t o) k e = ⊎-elim (λ h. omega arith) (⊎-elim (λ h. omega arith) (⊎-elim (λ h. omega arith) (⊎-elim (λ h. omega arith) (⊎-elim (λ h. omega arith) (λ h. omega arith))))) k
 refusal-numbered Impossible k e = omega arith
 refusal-numbered NotOpen k e = omega arith
 refusal-numbered TooFewPoints k e = omega arith
@@ -32,7 +33,7 @@ refusal-numbered SheetFull k e = omega arith
 refusal-numbered SheetExceeded k e = omega arith
 
 module _ {before after : List ℕ} {at filled : ℕ} (line points : ℕ) (answer : EndAnswer) {walk : Walk} {sheet : Sheet} {r : EndOutcome} (e : endReading (record { answer = answer; walk = walk; sheet = sheet }) ≡ r) where
-  pub accepted-end : {t : Totals} → answer ≡ Accepted t → Written before at (fitting before at (outlineLine (sheet .count) points t)) after filled → Finished (carriedEnd line points r) before at after (record { walk = walk; sheet = sheet; filled = filled })
+  pub accepted-end : {t : Totals} {o : Float} → answer ≡ Accepted t o → Written before at (fitting before at (outlineLine (sheet .count) points t)) after filled → Finished (carriedEnd line points r) before at after (record { walk = walk; sheet = sheet; filled = filled })
   unfolding carriedEnd
   accepted-end f w = subst (λ q. Finished (carriedEnd line points q) before at after (record { walk = walk; sheet = sheet; filled = filled })) (ap (λ a. endReading (record { answer = a; walk = walk; sheet = sheet })) (sym f) ∙ e) (record { walk = refl; sheet = refl; text = w })
 

@@ -55,7 +55,7 @@ fn end_walk(w: Walk, s: Sheet, line: u64, out: &mut [u8], at: usize) -> LineRepl
     let sheet = r.sheet;
     let a = r.answer;
     match a {
-        EndAnswer::Accepted(t) => {
+        EndAnswer::Accepted(t, _) => {
             let filled = put_outline(out, at, sheet.count, points, t);
             LineReply {
                 walk,

@@ -19,13 +19,20 @@ pub mod PiecePoints
 pub mod MapLaw
 pub mod PiecesAddUp
 pub mod PiecesLaws
+pub mod EntryLaws
+pub mod Outages
 pub mod WalkOf
 pub mod WalkedOutline
+pub mod LongestOutage
+pub mod LeftClosed
 pub mod WalkedAgain
 pub mod EveryOutline
+pub mod EveryFix
 pub mod Rings
 pub mod SheetSums
 pub mod WorkedInputs
+pub mod WorkedFixes
+pub mod WorkedEntries
 pub mod WorkedLimits
 pub mod WorkedOrders
 pub mod CornerCases
@@ -33,3 +40,4 @@ pub mod WorkedRings
 pub mod PiecesUses
 pub mod WalkedUses
 pub mod RingUses
+pub mod EntryUses

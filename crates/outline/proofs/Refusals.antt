@@ -7,6 +7,8 @@ use mathlib.Core.Logic.{_≢_}
 use Prim.Native.Nat.{ℕ}
 use native.Mathlib.Omega.{arith}
 use lib.IntN.{ℤ}
+use Rattle.receiver.specs.declared.Entry.the-variants.{Fix, Outage}
+use Rattle.receiver.specs.Floats.{plusZero}
 use borrow.Author.Tests.{eqb-false, le-ltb}
 use Rattle.outline.specs.declared.Totals.{Totals}
 use Rattle.outline.specs.declared.AffineMap.{AffineMap}
@@ -16,7 +18,8 @@ use Rattle.outline.specs.EdgeSums.{outlineTotals, zeros, exceed, outline
 use Rattle.outline.specs.ListCall.{accepted, refused, points, anyOutside, wrongLength, listCall}
 use Rattle.outline.specs.MapCall.{disallowed, mapped, totalLimits, mapCall}
 use Rattle.outline.specs.WalkCalls.{closedTotals, zeroArea, impossibleWalk, impossibleSheet, EndOutcome, refusedEnd, beginCall, pointCall, endCall, abandonCall}
-use Rattle.outline.specs.CallLists.{Call, begin, point, end, abandon, numberOf, walkAfter, impossibleSheetIn}
+use Rattle.outline.specs.EntryCalls.{fixCall, outageCall, entryCall}
+use Rattle.outline.specs.CallLists.{Call, begin, point, entry, end, abandon, numberOf, walkAfter, impossibleSheetIn}
 use Rattle.outline.specs.WalkedOutline.{Closable}
 use Rattle.integers.proofs.Flags.{neither}
 use Rattle.outline.proofs.CallCases as Case
@@ -73,12 +76,12 @@ walk-unchanged w c = go (numberOf w c) (walkAfter w c) (Case.call-case w c)
     go n left (Case.refused k r) h = refl
     go n left (Case.accepted k) h = absurd (h refl)
 
--- A refused end gives zeros and leaves the sheet as it was.
-pub end-unchanged : (w : Walk) (s : Sheet) → endCall w s .number ≢ 0 → (endCall w s .totals ≡ zeros) × (endCall w s .sheet ≡ s)
+-- A refused end gives zeros, and plus zero for the longest outage, and leaves the sheet as it was.
+pub end-unchanged : (w : Walk) (s : Sheet) → endCall w s .number ≢ 0 → (endCall w s .totals ≡ zeros) × (endCall w s .outage ≡ plusZero) × (endCall w s .sheet ≡ s)
 end-unchanged w s = go (endCall w s) (Case.end-case w s)
   where
-    go : (e : EndOutcome) → Case.EndCase w s e → e .number ≢ 0 → (e .totals ≡ zeros) × (e .sheet ≡ s)
-    go e (Case.refused k r) h = (refl, refl)
+    go : (e : EndOutcome) → Case.EndCase w s e → e .number ≢ 0 → (e .totals ≡ zeros) × (e .outage ≡ plusZero) × (e .sheet ≡ s)
+    go e (Case.refused k r) h = (refl, refl, refl)
     go e (Case.accepted k) h = absurd (h refl)
 
 -- A call with a walk and a sheet that 28 does not refuse is not answered with 28.
@@ -91,9 +94,11 @@ not-28 w e c f = go (numberOf w c) (walkAfter w c) (Case.call-case w c)
 
 -- 28 comes first: a call with a walk or a sheet that 28 refuses is answered with 28, whatever else is wrong.
 pub first-28 : (w : Walk) (c : Call) → (impossibleWalk w || impossibleSheetIn c) ≡ true → numberOf w c ≡ 28
-unfolding numberOf impossibleSheetIn beginCall pointCall endCall abandonCall
+unfolding numberOf impossibleSheetIn beginCall pointCall entryCall fixCall outageCall endCall abandonCall
 first-28 w (begin k) e = rw (sym (or-false (impossibleWalk w)) ∙ e, numberOf)
 first-28 w (point p) e = rw (sym (or-false (impossibleWalk w)) ∙ e, numberOf)
+first-28 w (entry (Fix f)) e = rw (sym (or-false (impossibleWalk w)) ∙ e, numberOf)
+first-28 w (entry (Outage seconds)) e = rw (sym (or-false (impossibleWalk w)) ∙ e, numberOf)
 first-28 w (end s) e = rw (e, numberOf)
 first-28 w abandon e = rw (sym (or-false (impossibleWalk w)) ∙ e, numberOf)
 

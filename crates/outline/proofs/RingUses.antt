@@ -7,6 +7,8 @@ use mathlib.Core.Logic.{_≢_}
 use native.Mathlib.Omega.{arith}
 use lib.IntN.{ℤ, pos, negsuc, natAbs}
 use lib.Signed.{ltZ}
+use lib.Ieee.{lt}
+use Rattle.receiver.specs.Floats.{notFinite, belowZero, plusZero}
 use Rattle.outline.specs.declared.Kind.{Kind}
 use Rattle.outline.specs.declared.Kind.the-variants.{Island, Hole}
 use Rattle.outline.specs.declared.Totals.{Totals}
@@ -18,15 +20,15 @@ use Rattle.outline.specs.ListCall.{accepted, points, numbers, outside, a
 use Rattle.outline.specs.MapCall.{moved, disallowed}
 use Rattle.outline.specs.Pieces.{Cut, piecesOf, startAt, Direction, backwards, walked, placed}
 use Rattle.outline.specs.WalkCalls.{closed, sheetOf, extended, closedTotals, hasSign, turned, zeroArea, sheetWith, impossibleWalk, impossibleSheet, beginCall, pointCall, endCall, abandonCall}
-use Rattle.outline.specs.CallLists.{begin, point, end, numberOf, walkAfter, Ring, ringWith, next, after, from, Walking, reached}
+use Rattle.outline.specs.CallLists.{begin, point, end, numberOf, walkAfter, Ring, ringOf, ringWith, longestAfter, next, after, from, Walking, reached}
 use Rattle.outline.specs.PiecesAddUp.{AddUpMoved}
 use Rattle.outline.specs.WalkedOutline.{Closable}
-use Rattle.outline.specs.EveryOutline.{answers, ringCalls, Walkable, Room, endedWith, Ending}
+use Rattle.outline.specs.EveryOutline.{answers, Walkable, Room, endedWith, Ending}
 use Rattle.outline.specs.Rings.{SameEnd}
 use Rattle.outline.proofs.WorkedInputs.{at, leftover}
 use Rattle.outline.proofs.PiecesUses.{pentagon, pentagonTotals, pentagon-taken}
 use Rattle.outline.proofs.WalkedOutline.{walked-outline, walked-pieces}
-use Rattle.outline.proofs.EveryOutline.{every-outline}
+use Rattle.outline.proofs.EveryOutline.{by-points}
 use Rattle.outline.proofs.Rings.{sign-by-kind, walked-back}
 use Rattle.outline.proofs.WalkedUses.{first, first-closable, lastPlace}
 
@@ -40,19 +42,19 @@ eight =
       calls = begin Hole ∷ point (at (pos 0) (pos 0)) ∷ point (at (pos 2) (pos 2)) ∷ point (at (pos 2) (pos 0)) ∷ point (at (pos 0) (pos 2)) ∷ end (sheetOf 64 zeros) ∷ begin Island ∷ [];
     }
 
-eight-ring : reached eight .ring ≡ record { kind = Hole; points = at (pos 0) (pos 0) ∷ at (pos 2) (pos 2) ∷ at (pos 2) (pos 0) ∷ at (pos 0) (pos 2) ∷ [] }
-unfolding over exceed outside extended hasSign turned zeroArea impossibleWalk impossibleSheet beginCall pointCall endCall numberOf walkAfter ringWith next after
+eight-ring : reached eight .ring ≡ ringOf Hole (at (pos 0) (pos 0) ∷ at (pos 2) (pos 2) ∷ at (pos 2) (pos 0) ∷ at (pos 0) (pos 2) ∷ [])
+unfolding over exceed outside extended hasSign turned zeroArea notFinite belowZero lt impossibleWalk impossibleSheet beginCall pointCall endCall numberOf walkAfter ringWith next after
 eight-ring = refl
 
 eight-closable : Closable (reached eight .walk)
-unfolding over exceed outside extended hasSign turned zeroArea impossibleWalk impossibleSheet beginCall pointCall endCall numberOf walkAfter ringWith next after
+unfolding over exceed outside extended hasSign turned zeroArea notFinite belowZero lt impossibleWalk impossibleSheet beginCall pointCall endCall numberOf walkAfter ringWith next after
 eight-closable = record { is-open = refl; enough = omega arith }
 
 abbrev eightTotals : Totals
 eightTotals = record { a2 = pos 0; x6 = negsuc 7; y6 = pos 0; xx12 = negsuc 31; xy24 = negsuc 31; yy12 = pos 0 }
 
 eight-computed : outlineTotals (reached eight .ring .points) ≡ eightTotals
-unfolding openEdges edges sumOver over exceed outside extended hasSign turned zeroArea impossibleWalk impossibleSheet beginCall pointCall endCall numberOf walkAfter ringWith next after
+unfolding openEdges edges sumOver over exceed outside extended hasSign turned zeroArea notFinite belowZero lt impossibleWalk impossibleSheet beginCall pointCall endCall numberOf walkAfter ringWith next after
 eight-computed = refl
 
 -- Its totals with the closing edge are the edge sums all the same, and what the list call answers,
@@ -88,15 +90,15 @@ back =
     }
 
 back-points : reached back .ring .points ≡ startAt 3 (walked backwards (reached first .ring .points))
-unfolding over exceed outside extended hasSign turned zeroArea impossibleWalk impossibleSheet beginCall pointCall endCall abandonCall numberOf walkAfter ringWith next after walked
+unfolding over exceed outside extended hasSign turned zeroArea notFinite belowZero lt impossibleWalk impossibleSheet beginCall pointCall endCall abandonCall numberOf walkAfter ringWith next after walked
 back-points = refl
 
 back-kind : reached back .ring .kind ≡ reached first .ring .kind
-unfolding over exceed outside extended hasSign turned zeroArea impossibleWalk impossibleSheet beginCall pointCall endCall abandonCall numberOf walkAfter ringWith next after
+unfolding over exceed outside extended hasSign turned zeroArea notFinite belowZero lt impossibleWalk impossibleSheet beginCall pointCall endCall abandonCall numberOf walkAfter ringWith next after
 back-kind = refl
 
 back-open : reached back .walk .is_open ≡ true
-unfolding over exceed outside extended hasSign turned zeroArea impossibleWalk impossibleSheet beginCall pointCall endCall abandonCall numberOf walkAfter ringWith next after
+unfolding over exceed outside extended hasSign turned zeroArea notFinite belowZero lt impossibleWalk impossibleSheet beginCall pointCall endCall abandonCall numberOf walkAfter ringWith next after
 back-open = refl
 
 same-end : (s : Sheet) → SameEnd (endCall (reached first .walk) s) (endCall (reached back .walk) s)
@@ -128,12 +130,12 @@ below w s z e = ap (λ k. hasSign k (endCall w s .totals .a2)) (sym e) ∙ sign-
 -- ---- the pentagon can be walked as either kind, also from the walk with leftover fields, and into the last place of a sheet
 
 abbrev ringAs : Kind → Ring
-ringAs k = record { kind = k; points = points pentagon }
+ringAs k = ringOf k (points pentagon)
 
-pentagon-as : (k : Kind) → Walkable leftover (ringAs k) × Ending (ringAs k) pentagonTotals
-pentagon-as k = every-outline pentagon pentagonTotals pentagon-taken k leftover refl
+pentagon-as : (k : Kind) → Walkable leftover k (map point (points pentagon)) (ringAs k) × Ending (ringAs k) pentagonTotals
+pentagon-as k = by-points pentagon pentagonTotals pentagon-taken k leftover refl
 
-none-refused : (k : Kind) (n : ℕ) → List·Memᴰ n (answers leftover (ringCalls (ringAs k))) → n ≡ 0
+none-refused : (k : Kind) (n : ℕ) → List·Memᴰ n (answers leftover (begin k ∷ map point (points pentagon))) → n ≡ 0
 none-refused k = pentagon-as k .0 .none-refused
 
 taken : (k : Kind) → after (from leftover) (begin k ∷ map point (points pentagon)) .ring ≡ ringAs k
@@ -143,14 +145,15 @@ last-place : Room lastPlace pentagonTotals
 unfolding impossibleSheet exceed over
 last-place = record { possible = refl; count = omega arith; totals = refl }
 
-pentagon-ended : endCall (after (from leftover) (begin Island ∷ map point (points pentagon)) .walk) lastPlace ≡ record { number = 0; totals = pentagonTotals; walk = closed; sheet = sheetWith lastPlace pentagonTotals }
-unfolding hasSign turned
+pentagon-ended : endCall (after (from leftover) (begin Island ∷ map point (points pentagon)) .walk) lastPlace ≡ record { number = 0; totals = pentagonTotals; outage = plusZero; walk = closed; sheet = sheetWith lastPlace pentagonTotals }
+unfolding hasSign turned longestAfter
 pentagon-ended = ap (λ w. endCall w lastPlace) (pentagon-as Island .0 .walk) ∙ pentagon-as Island .1 .accepted (λ e. omega (arith, ap natAbs e)) lastPlace last-place
 
 -- Every list that the list call accepts can be walked as a ring of either kind. If it has an area, every sheet with room then has its totals more, as added;
-walked-onto : (zs : List ℤ) (t : Totals) → listCall zs ≡ accepted t → (k : Kind) (w : Walk) → w .is_open ≡ false → t .a2 ≢ pos 0 → (s : Sheet) → Room s (turned k t) → endCall (after (from w) (begin k ∷ map point (points zs)) .walk) s ≡ endedWith s (turned k t)
-walked-onto zs t taken k w h area s room = let (walkable, ending) = every-outline zs t taken k w h in ap (λ w. endCall w s) (walkable .walk) ∙ ending .accepted area s room
+walked-onto : (zs : List ℤ) (t : Totals) → listCall zs ≡ accepted t → (k : Kind) (w : Walk) → w .is_open ≡ false → t .a2 ≢ pos 0 → (s : Sheet) → Room s (turned k t) → endCall (after (from w) (begin k ∷ map point (points zs)) .walk) s ≡ endedWith s (turned k t) plusZero
+unfolding longestAfter
+walked-onto zs t taken k w h area s room = let (walkable, ending) = by-points zs t taken k w h in ap (λ w. endCall w s) (walkable .walk) ∙ ending .accepted area s room
 
 -- if it has none, every sheet that 28 takes refuses it with 32.
 walked-flat : (zs : List ℤ) (t : Totals) → listCall zs ≡ accepted t → (k : Kind) (w : Walk) → w .is_open ≡ false → t .a2 ≡ pos 0 → (s : Sheet) → impossibleSheet s ≡ false → endCall (after (from w) (begin k ∷ map point (points zs)) .walk) s .number ≡ 32
-walked-flat zs t taken k w h zero s m = let (walkable, ending) = every-outline zs t taken k w h in ap (λ w. endCall w s .number) (walkable .walk) ∙ ap (λ e. e .number) (ending .refused zero s m)
+walked-flat zs t taken k w h zero s m = let (walkable, ending) = by-points zs t taken k w h in ap (λ w. endCall w s .number) (walkable .walk) ∙ ap (λ e. e .number) (ending .refused zero s m)

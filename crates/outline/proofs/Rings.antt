@@ -4,6 +4,7 @@ use mathlib.Core.Bool.{Bool, true, false, not, _||_, cond}
 use Prim.Native.Nat.{ℕ, _≤_}
 use lib.Dec.{leb, ltb}
 use lib.ListN.{length}
+use lib.Ieee.{Float}
 use borrow.Author.Tests.{ltb-false}
 use Rattle.outline.specs.declared.Totals.{Totals}
 use Rattle.outline.specs.declared.Walk.{Walk}
@@ -42,8 +43,8 @@ module _ (w v : Walk) (s : Sheet) where
   both-refused : (n : ℕ) → SameEnd (refusedEnd n w s) (refusedEnd n v s)
   both-refused n = record { number = refl; totals = refl; sheet = refl }
 
-  both-ended : (t u : Totals) → t ≡ u → SameEnd (endedWith s t) (endedWith s u)
-  both-ended t u e = record { number = refl; totals = e; sheet = ap (sheetWith s) e }
+  both-ended : (t u : Totals) (o p : Float) → t ≡ u → SameEnd (endedWith s t o) (endedWith s u p)
+  both-ended t u o p e = record { number = refl; totals = e; sheet = ap (sheetWith s) e }
 
   same-test : {a b : Bool} {c d e f : EndOutcome} → a ≡ b → SameEnd c d → (a ≡ false → SameEnd e f) → SameEnd (cond a c e) (cond b d f)
   same-test {a} {c = c} {d} {e} {f} same refused goes-on = subst (λ b. SameEnd (cond a c e) (cond b d f)) same (go a goes-on)
@@ -63,7 +64,7 @@ module _ (w v : Walk) (s : Sheet) where
       let added = a .added enough z in
       same-test {a = leb 64 (s .count)} refl (both-refused 25) (λ _.
       same-test (ap (λ t. exceed totalLimits (plus (s .totals) t)) added) (both-refused 26) (λ _.
-      both-ended (addedTotals w) (addedTotals v) added))))))
+      both-ended (addedTotals w) (addedTotals v) (w .outage) (v .outage) added))))))
 
 module _ (first second : Walking) (start : ℕ) (direction : Direction) (same : reached second .ring .points ≡ startAt start (walked direction (reached first .ring .points))) where
   -- Its totals with the closing edge are those of the first, their signs turned if walked backwards.

@@ -1,22 +1,24 @@
 -- Demands 2 and 3 for walked outlines: after any list of calls from a walk marked closed, the walk is closed or is the walk of the ring begun last: the kind of the last
--- accepted begin, and the points taken since. Each call keeps this, and the claims follow from it.
+-- accepted begin, and the points and outages taken since. Each call keeps this, and the claims follow from it.
 use mathlib.Core.Path.{_≡_, refl, sym, _∙_, ap, subst}
 use mathlib.Core.Bool.{true, false, cond, true≢false}
 use mathlib.Core.List.{List, [], _∷_, _++_, map}
-use Prim.Native.Nat.{ℕ, _≤_, _<_, zero-le}
+use Prim.Native.Nat.{ℕ, zero-le}
 use native.Mathlib.Omega.{arith}
 use lib.Dec.{eqb}
+use lib.Ieee.{Float}
 use lib.ListN.{length, length-append}
 use borrow.Author.Tests.{ne-eqb}
 use Rattle.outline.specs.declared.Position.{Position}
-use Rattle.outline.specs.declared.Kind.{Kind}
 use Rattle.outline.specs.declared.Walk.{Walk}
 use Rattle.outline.specs.EdgeSums.{openEdges, sumOver, outlineTotals, outlineBounds, exceed}
-use Rattle.outline.specs.ListCall.{accepted, numbers, outside, anyOutside}
+use Rattle.outline.specs.ListCall.{accepted, numbers, anyOutside}
 use Rattle.outline.specs.MapCall.{moved}
 use Rattle.outline.specs.Pieces.{piecesOf, placed}
 use Rattle.outline.specs.WalkCalls.{closedTotals, turned, addedTotals, extended, impossibleWalk}
-use Rattle.outline.specs.CallLists.{Call, numberOf, walkAfter, Ring, ringWith, Trace, next, after, walkOf, ringTotals, Walking, reached}
+use Rattle.outline.specs.FixCall.{fixPoint}
+use Rattle.outline.specs.EntryCalls.{withOutage}
+use Rattle.outline.specs.CallLists.{Call, numberOf, walkAfter, Ring, ringOf, withPoint, withSeconds, ringWith, longestAfter, Trace, next, after, walkOf, ringTotals, Walking, reached}
 use Rattle.outline.specs.PiecesAddUp.{AddUpMoved}
 use Rattle.outline.specs.WalkedOutline.{Closable, WalkedOutline, WalkedPieces}
 use Rattle.outline.proofs.Every.{All, all-append}
@@ -24,10 +26,11 @@ use Rattle.outline.proofs.IndexLaws.{points-numbers}
 use Rattle.outline.proofs.Limits.{Inside, outside-not, Outline, accepts-points, accepted-within}
 use Rattle.outline.proofs.PiecesAddUp.{pieces-add-up}
 use Rattle.outline.proofs.CallCases as Case
-use Rattle.outline.proofs.CallCases.{Taken, begun, extends, ends, abandoned}
+use Rattle.outline.proofs.CallCases.{Extends, TakesOutage, Taken, begun, extends, fixes, takes-outage, ends, abandoned}
 use Rattle.outline.proofs.Refusals.{not-28, end-32, only-32}
 use Rattle.outline.proofs.TurnedTotals.{zero-zeroArea, zeroArea-zero}
-use Rattle.outline.proofs.WalkOf.{extended-is, closed-is, possible-walk, possible-closed}
+use Rattle.outline.proofs.Outages.{Usable}
+use Rattle.outline.proofs.WalkOf.{extended-is, outage-is, closed-is, Sound, possible-walk, possible-closed}
 
 -- ---- what every list of calls keeps
 
@@ -37,20 +40,35 @@ traceOf g = record { walk = walkOf g; ring = g }
 -- The walk is closed, or it is that of the trace's ring.
 data Kept : Trace → Type 0 where
   not-open : {r : Trace} → r .walk .is_open ≡ false → Kept r
-  walking : (k : Kind) (ps : List Position) → length ps ≤ 1024 → All Inside ps → Kept (traceOf (record { kind = k; points = ps }))
+  walking : (g : Ring) → Sound g → Kept (traceOf g)
 
--- A point more.
-point-keeps : {r : Trace} → Kept r → (p : Position) → r .walk .is_open ≡ true → outside p ≡ false → r .walk .count < 1024 → Kept (record { walk = extended (r .walk) p; ring = record { kind = r .ring .kind; points = r .ring .points ++ p ∷ [] } })
-point-keeps (not-open h) p e f m = absurd (true≢false (sym e ∙ h))
-point-keeps (walking k ps n h) p e f m =
-    subst (λ w. Kept (record { walk = w; ring = record { kind = k; points = ps ++ p ∷ [] } })) (sym (extended-is k ps p))
-    (walking k (ps ++ p ∷ []) (omega (arith, length-append ps (p ∷ []))) (all-append Inside ps (p ∷ []) h (outside-not p f, tt)))
+-- A point more, of a point call or of a fix.
+point-keeps : {r : Trace} → Kept r → (p : Position) → Extends (r .walk) p → Kept (record { walk = extended (r .walk) p; ring = withPoint (r .ring) p })
+point-keeps (not-open h) p e = absurd (true≢false (sym (e .is-open) ∙ h))
+point-keeps (walking g h) p e =
+    subst (λ w. Kept (record { walk = w; ring = withPoint g p })) (sym (extended-is g p))
+    (walking (withPoint g p)
+    (record {
+      few = omega (arith, length-append (g .points) (p ∷ []), e .room);
+      inside = all-append Inside (g .points) (p ∷ []) (h .inside) (outside-not p (e .inside), tt);
+      usable = h .usable;
+    }))
+
+-- An outage more.
+outage-keeps : {r : Trace} → Kept r → (seconds : Float) → TakesOutage (r .walk) seconds → Kept (record { walk = withOutage (r .walk) seconds; ring = withSeconds (r .ring) seconds })
+outage-keeps (not-open h) seconds e = absurd (true≢false (sym (e .is-open) ∙ h))
+outage-keeps (walking g h) seconds e =
+    subst (λ w. Kept (record { walk = w; ring = withSeconds g seconds })) (sym (outage-is g seconds))
+    (walking (withSeconds g seconds)
+    (record { few = h .few; inside = h .inside; usable = all-append Usable (g .outages) (seconds ∷ []) (h .usable) (record { finite = e .finite; not-below = e .not-below }, tt) }))
 
 -- One clause for each call that is accepted.
 taken-keeps : {r : Trace} → Kept r → {c : Call} {left : Walk} → Taken (r .walk) c left → Kept (record { walk = left; ring = ringWith (r .ring) c })
-unfolding ringWith openEdges sumOver
-taken-keeps k (begun j e) = walking j [] zero-le tt
-taken-keeps k (extends p e f m) = point-keeps k p e f m
+unfolding ringWith openEdges sumOver longestAfter
+taken-keeps k (begun j e) = walking (ringOf j []) (record { few = zero-le; inside = tt; usable = tt })
+taken-keeps k (extends p e) = point-keeps k p e
+taken-keeps k (fixes f e) = point-keeps k (fixPoint f) e
+taken-keeps k (takes-outage seconds e) = outage-keeps k seconds e
 taken-keeps k (ends s e) = not-open refl
 taken-keeps k (abandoned e) = not-open refl
 
@@ -72,15 +90,15 @@ kept-after (c ∷ calls) k = kept-after calls (call-keeps c k)
 
 kept-possible : {r : Trace} → Kept r → impossibleWalk (r .walk) ≡ false
 kept-possible {r} (not-open h) = possible-closed (r .walk) h
-kept-possible (walking k ps n h) = possible-walk k ps n h
+kept-possible (walking g h) = possible-walk g h
 
 kept-walk : {r : Trace} → Kept r → r .walk .is_open ≡ true → r .walk ≡ walkOf (r .ring)
 kept-walk (not-open h) e = absurd (true≢false (sym e ∙ h))
-kept-walk (walking k ps n h) e = refl
+kept-walk (walking g h) e = refl
 
 kept-outline : {r : Trace} → Kept r → Closable (r .walk) → Outline (r .ring .points) × (closedTotals (r .walk) ≡ outlineTotals (r .ring .points))
 kept-outline (not-open h) c = absurd (true≢false (sym (c .is-open) ∙ h))
-kept-outline (walking k ps n h) c = (record { enough = c .enough; few = n; inside = h }, closed-is k ps (c .enough))
+kept-outline (walking g h) c = (record { enough = c .enough; few = h .few; inside = h .inside }, closed-is g (c .enough))
 
 -- An accepted end answers the turned totals.
 kept-added : {r : Trace} → Kept r → Closable (r .walk) → addedTotals (r .walk) ≡ ringTotals (r .ring)

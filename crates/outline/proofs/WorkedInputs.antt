@@ -3,6 +3,7 @@ use mathlib.Core.Bool.{false}
 use mathlib.Core.List.{List, [], _∷_}
 use Prim.Native.Nat.{ℕ}
 use lib.IntN.{ℤ, pos}
+use Rattle.receiver.specs.Floats.{plusZero}
 use Rattle.outline.specs.declared.Position.{Position}
 use Rattle.outline.specs.declared.Totals.{Totals}
 use Rattle.outline.specs.declared.Sizes.{Sizes}
@@ -31,15 +32,15 @@ eachAlone f b =
 
 -- An open walk of n points that are all the origin: an island.
 abbrev pub openOf : ℕ → Totals → Walk
-openOf n t = openWalk Island n origin origin t
+openOf n t = openWalk Island n origin origin t plusZero
 
 -- The walk marked closed, all else as it is.
 abbrev pub markedClosed : Walk → Walk
-markedClosed w = record { is_open = false; kind = w .kind; count = w .count; first = w .first; last = w .last; totals = w .totals }
+markedClosed w = record { is_open = false; kind = w .kind; count = w .count; first = w .first; last = w .last; totals = w .totals; outage = w .outage }
 
 -- Marked closed, with fields that no call leaves, and that 28 refuses of an open walk. A hole.
 abbrev pub leftover : Walk
-leftover = markedClosed (openWalk Hole 1025 (at (pos 1) (pos 2)) origin (area 5))
+leftover = markedClosed (openWalk Hole 1025 (at (pos 1) (pos 2)) origin (area 5) plusZero)
 
 -- The map that doubles.
 abbrev pub doubling : AffineMap

@@ -4,6 +4,8 @@ use mathlib.Core.Path.{_≡_, refl}
 use mathlib.Core.List.{[], _∷_, map}
 use lib.IntN.{pos}
 use lib.ListN.{replicate}
+use lib.Ieee.{lt}
+use Rattle.receiver.specs.Floats.{notFinite, belowZero}
 use Rattle.outline.specs.declared.Position.{Position}
 use Rattle.outline.specs.declared.Totals.{Totals}
 use Rattle.outline.specs.declared.AffineMap.{AffineMap}
@@ -40,7 +42,7 @@ record Begin : Type 0 where
   only-22 : beginCall (openOf 3 zeros) Island .number ≡ 22
 
 begin : Begin
-unfolding over exceed outside impossibleWalk beginCall
+unfolding over exceed outside notFinite belowZero lt impossibleWalk beginCall
 begin = record { impossible-22 = refl; only-22 = refl }
 
 -- Order 28, 21, 1, 23.
@@ -52,7 +54,7 @@ record Point : Type 0 where
   far-23 : pointCall (openOf 1024 zeros) far .number ≡ 1
 
 point : Point
-unfolding over exceed outside impossibleWalk pointCall
+unfolding over exceed outside notFinite belowZero lt impossibleWalk pointCall
 point = record { impossible-1 = refl; impossible-23 = refl; closed-1 = refl; closed-23 = refl; far-23 = refl }
 
 -- Zero area, and another total that no sheet with that total at its limit can take.
@@ -90,7 +92,7 @@ record End : Type 0 where
   only-26 : endCall (openOf 3 (area 1)) (sheetOf 63 most) .number ≡ 26
 
 end : End
-unfolding over exceed outside hasSign turned zeroArea impossibleWalk impossibleSheet endCall
+unfolding over exceed outside hasSign turned zeroArea notFinite belowZero lt impossibleWalk impossibleSheet endCall
 end = record { sheet-21 = refl; sheet-24 = refl; walk-24 = refl; sheet-32 = refl; walk-32 = refl; walk-25 = refl; walk-26 = refl; sheet-26 = refl; closed-24 = refl; closed-32 = refl; closed-25 = refl; closed-26 = refl; few-32 = refl; few-25 = refl; few-26 = refl; flat-25 = refl; flat-26 = refl; full-26 = refl; only-26 = refl }
 
 -- Order 28, 21.
@@ -99,7 +101,7 @@ record Abandon : Type 0 where
   only-21 : abandonCall closedFull .number ≡ 21
 
 abandon : Abandon
-unfolding over exceed outside impossibleWalk abandonCall
+unfolding over exceed outside notFinite belowZero lt impossibleWalk abandonCall
 abandon = record { only-28 = refl; only-21 = refl }
 
 -- Order 2, 1: an odd length, too few points and too many, all of them beyond the limits.

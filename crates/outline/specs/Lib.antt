@@ -3,11 +3,16 @@ pub mod ListCall
 pub mod MapCall
 pub mod Pieces
 pub mod OtherTerms
+pub mod FixCall
 pub mod WalkCalls
+pub mod EntryCalls
 pub mod CallLists
 pub mod PiecesAddUp
 pub mod WalkedOutline
+pub mod EntryLaws
+pub mod LongestOutage
 pub mod EveryOutline
+pub mod EveryFix
 pub mod Rings
 pub mod SheetSums
 pub mod private

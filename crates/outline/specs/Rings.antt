@@ -19,7 +19,7 @@ SignByKind =
     -- the A2 that it answers is above 0 for an island and below 0 for a hole.
     → hasSign (w .kind) (endCall w s .totals .a2) ≡ true
 
--- Two ends that answer the same, and leave the same sheet.
+-- Two ends that answer the same number and totals, and leave the same sheet. The longest outage is each walk's own.
 pub record SameEnd (a b : EndOutcome) : Type 0 where
   pub number : a .number ≡ b .number
   pub totals : a .totals ≡ b .totals
@@ -44,5 +44,5 @@ WalkedBack =
     → reached second .ring .points ≡ startAt start (walked direction (reached first .ring .points))
     -- then with every sheet
     → (s : Sheet)
-    -- both ends answer the same, refused or not, and leave the same sheet.
+    -- both ends answer the same number and totals, refused or not, and leave the same sheet.
     → SameEnd (endCall (reached first .walk) s) (endCall (reached second .walk) s)

@@ -1,9 +1,11 @@
--- Document 01, "Walk and sheet" and the refusals 1 and 21 to 28, and document 02, CR 3: the outcomes of begin, point, end and abandon.
+-- Document 01, "Walk and sheet" and the refusals 1, 21 to 26 and 28, and document 02, CR 3 with its refusal 32, and CR 9: the outcomes of begin, point, end and abandon.
 use Prim.Native.Nat.{ℕ, _+_, _*_, _/_}
 use mathlib.Core.Bool.{Bool, true, false, not, _&&_, _||_, cond}
 use lib.Dec.{leb, ltb, eqb}
 use lib.IntN.{ℤ, pos, natAbs}
 use lib.Signed.{ltZ}
+use lib.Ieee.{Float}
+use Rattle.receiver.specs.Floats.{notFinite, belowZero, plusZero}
 use Rattle.outline.specs.declared.Position.{Position}
 use Rattle.outline.specs.declared.Totals.{Totals}
 use Rattle.outline.specs.declared.Sizes.{Sizes}
@@ -20,17 +22,17 @@ use Rattle.outline.specs.MapCall.{totalLimits}
 abbrev pub origin : Position
 origin = record { x = pos 0; y = pos 0 }
 
--- An open walk of n points: its kind, the first and the last of them, and the sums over the edges so far. Every open walk is made by it.
-abbrev pub openWalk : Kind → ℕ → Position → Position → Totals → Walk
-openWalk k n first last t = record { is_open = true; kind = k; count = n; first = first; last = last; totals = t }
+-- An open walk of n points: its kind, the first and the last of them, the sums over the edges so far, and its longest outage. Every open walk is made by it.
+abbrev pub openWalk : Kind → ℕ → Position → Position → Totals → Float → Walk
+openWalk k n first last t o = record { is_open = true; kind = k; count = n; first = first; last = last; totals = t; outage = o }
 
--- A walk just begun: open, of the kind asked for, and all its numbers zero.
+-- A walk just begun: open, of the kind asked for, all its numbers zero, and its longest outage plus zero.
 abbrev pub opened : Kind → Walk
-opened k = openWalk k 0 origin origin zeros
+opened k = openWalk k 0 origin origin zeros plusZero
 
--- A walk that is over or not begun: not open, an island, and all its numbers zero.
+-- A walk that is over or not begun: not open, an island, all its numbers zero, and its longest outage plus zero.
 abbrev pub closed : Walk
-closed = record { is_open = false; kind = Island; count = 0; first = origin; last = origin; totals = zeros }
+closed = record { is_open = false; kind = Island; count = 0; first = origin; last = origin; totals = zeros; outage = plusZero }
 
 -- A sheet of n outlines, and the sums of their totals.
 abbrev pub sheetOf : ℕ → Totals → Sheet
@@ -44,12 +46,12 @@ newSheet = sheetOf 0 zeros
 abbrev pub edgeTotals : Position → Position → Totals
 edgeTotals a b = six (λ t. t a b)
 
--- The open walk with one point more, of the same kind. From the second point on, the edge that leads to it is added.
+-- The open walk with one point more; its kind and its longest outage stay. From the second point on, the edge that leads to it is added.
 unfoldable pub extended : Walk → Position → Walk
 extended w p =
     cond (eqb (w .count) 0)
-    (openWalk (w .kind) 1 p p (w .totals))
-    (openWalk (w .kind) (w .count + 1) (w .first) p (plus (w .totals) (edgeTotals (w .last) p)))
+    (openWalk (w .kind) 1 p p (w .totals) (w .outage))
+    (openWalk (w .kind) (w .count + 1) (w .first) p (plus (w .totals) (edgeTotals (w .last) p)) (w .outage))
 
 -- The walk's totals with the closing edge.
 abbrev pub closedTotals : Walk → Totals
@@ -90,13 +92,16 @@ share n =
       yy12 = n * (outlineBounds .yy12 / 1024);
     }
 
--- 28 of a walk, which looks at open walks only: the count is past 1,024; or there are points, and 1 refuses the first or the last; or a total is past its share.
+-- 28 of a walk, which looks at open walks only: the count is past 1,024; or there are points, and 1 refuses the first or the last; or a total is past its share;
+-- or 33 or 34 would refuse its longest outage (document 02, CR 9).
 unfoldable pub impossibleWalk : Walk → Bool
 impossibleWalk w =
     w .is_open
     && (ltb 1024 (w .count)
     || not (eqb (w .count) 0) && (outside (w .first) || outside (w .last))
-    || exceed (share (w .count)) (w .totals))
+    || exceed (share (w .count)) (w .totals)
+    || notFinite (w .outage)
+    || belowZero (w .outage))
 
 -- 28 of a sheet: its count is past 64, or a total is past its limit.
 unfoldable pub impossibleSheet : Sheet → Bool
@@ -111,15 +116,16 @@ pub record WalkOutcome : Type 0 where
 pub record EndOutcome : Type 0 where
   pub number : ℕ
   pub totals : Totals
+  pub outage : Float
   pub walk : Walk
   pub sheet : Sheet
 
--- A refusal hands walk and sheet back unchanged, with zeros in place of totals.
+-- A refusal hands walk and sheet back unchanged, with zeros in place of totals, and plus zero in place of the longest outage.
 abbrev pub refusedWalk : ℕ → Walk → WalkOutcome
 refusedWalk n w = record { number = n; walk = w }
 
 abbrev pub refusedEnd : ℕ → Walk → Sheet → EndOutcome
-refusedEnd n w s = record { number = n; totals = zeros; walk = w; sheet = s }
+refusedEnd n w s = record { number = n; totals = zeros; outage = plusZero; walk = w; sheet = s }
 
 -- Order: 28, 22.
 unfoldable pub beginCall : Walk → Kind → WalkOutcome
@@ -137,7 +143,7 @@ pointCall w p =
     (cond (leb 1024 (w .count)) (refusedWalk 23 w)
     (record { number = 0; walk = extended w p }))))
 
--- Order: 28, 21, 24, 32, 25, 26. Refusal 32: a ring of zero area.
+-- Order: 28, 21, 24, 32, 25, 26. Refusal 32: a ring of zero area. Where accepted, the walk's longest outage is answered as it stands.
 unfoldable pub endCall : Walk → Sheet → EndOutcome
 endCall w s =
     cond (impossibleWalk w || impossibleSheet s) (refusedEnd 28 w s)
@@ -146,7 +152,7 @@ endCall w s =
     (cond (zeroArea (closedTotals w)) (refusedEnd 32 w s)
     (cond (leb 64 (s .count)) (refusedEnd 25 w s)
     (cond (exceed totalLimits (plus (s .totals) (addedTotals w))) (refusedEnd 26 w s)
-    (record { number = 0; totals = addedTotals w; walk = closed; sheet = sheetWith s (addedTotals w) }))))))
+    (record { number = 0; totals = addedTotals w; outage = w .outage; walk = closed; sheet = sheetWith s (addedTotals w) }))))))
 
 -- Order: 28, 21.
 unfoldable pub abandonCall : Walk → WalkOutcome

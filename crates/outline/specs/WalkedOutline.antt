@@ -3,7 +3,7 @@
 use mathlib.Core.Path.{_≡_}
 use mathlib.Core.Bool.{true, false}
 use mathlib.Core.List.{List, map}
-use mathlib.Core.Logic.{_≢_}
+use mathlib.Core.Logic.{_≢_, _⊎_}
 use Prim.Native.Nat.{ℕ, _≤_}
 use lib.IntN.{pos}
 use Rattle.outline.specs.declared.AffineMap.{AffineMap}
@@ -13,7 +13,7 @@ use Rattle.outline.specs.EdgeSums.{outlineTotals}
 use Rattle.outline.specs.ListCall.{accepted, numbers, anyOutside, listCall}
 use Rattle.outline.specs.MapCall.{moved, disallowed, mapCall}
 use Rattle.outline.specs.Pieces.{Cut, piecesOf, startAt, Direction, walked, placed, directed}
-use Rattle.outline.specs.WalkCalls.{closedTotals, impossibleWalk, impossibleSheet, endCall}
+use Rattle.outline.specs.WalkCalls.{closed, closedTotals, impossibleWalk, impossibleSheet, endCall}
 use Rattle.outline.specs.CallLists.{Call, numberOf, impossibleSheetIn, Trace, walkOf, ringTotals, Walking, reached}
 use Rattle.outline.specs.PiecesAddUp.{AddUpMoved}
 
@@ -24,13 +24,13 @@ pub record Closable (w : Walk) : Type 0 where
   pub is-open : w .is_open ≡ true
   pub enough : 3 ≤ w .count
 
--- What is claimed of a walk, and of its ring: the kind of the last accepted begin, and the points of the accepted point calls since.
+-- What is claimed of a walk, and of its ring: the kind of the last accepted begin, and the points of the accepted point calls and fixes since.
 pub record IsOutline (r : Trace) : Type 0 where
   -- 28 takes the walk,
   pub possible : impossibleWalk (r .walk) ≡ false
   -- so no call on it answers 28, but an end with a sheet that 28 refuses.
   pub never-28 : (c : Call) → impossibleSheetIn c ≡ false → numberOf (r .walk) c ≢ 28
-  -- While the walk is open, it is the walk of the ring: its kind, the number of its points, their ends and the sums over their edges so far.
+  -- While the walk is open, it is the walk of the ring: its kind, the number of its points, their ends, the sums over their edges so far, and the longest of its outages.
   pub is-walk : r .walk .is_open ≡ true → r .walk ≡ walkOf (r .ring)
   -- From 3 points on, its totals with the closing edge are the sums over all edges of the points,
   pub edge-sums : Closable (r .walk) → closedTotals (r .walk) ≡ outlineTotals (r .ring .points)
@@ -45,10 +45,20 @@ pub record IsOutline (r : Trace) : Type 0 where
 
 abbrev pub WalkedOutline : Type 0
 WalkedOutline =
-    -- For every walk marked closed and every list of calls from it on, refused ones included, the ends with whichever sheets,
+    -- For every walk marked closed and every list of calls from it on, entries of a receiver among them, refused ones included, the ends with whichever sheets,
     (k : Walking)
     -- the claim holds of the walk and the ring that they come to.
     → IsOutline (reached k)
+
+-- Document 01: a closed walk equals one that was never opened.
+abbrev pub LeftClosed : Type 0
+LeftClosed =
+    -- For every walk marked closed and every list of calls from it on
+    (k : Walking)
+    -- that leave the walk closed:
+    → reached k .walk .is_open ≡ false
+    -- it is the one handed in, or the closed walk, all its numbers zero and its longest outage plus zero.
+    → (reached k .walk ≡ k .start) ⊎ (reached k .walk ≡ closed)
 
 -- ---- demand 3
 

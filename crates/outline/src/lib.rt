@@ -54,13 +54,15 @@ pub enum Kind {
     Hole,
 }
 
-// A walk that its caller holds: the open polyline walked so far, the kind of its ring, and whether it is open. The text program is fastest with the fields in this order.
+// A walk that its caller holds: the open polyline walked so far, the kind of its ring, whether it is open, and the seconds of its longest outage (document 02, CR 9). The text program is
+// fastest with the fields in this order.
 pub struct Walk {
     pub count: u32,
     pub first: Position,
     pub last: Position,
     pub kind: Kind,
     pub is_open: bool,
+    pub outage: f32,
     pub totals: Totals,
 }
 

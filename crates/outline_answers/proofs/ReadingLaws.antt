@@ -5,17 +5,24 @@ use mathlib.Core.Bool.{cond}
 use mathlib.Core.List.{[], _∷_, map}
 use Prim.Native.Nat.{ℕ}
 use lib.Dec.{eqb}
+use lib.Ieee.{Float}
+use lib.ListN.{replicate}
+use Rattle.receiver.specs.Floats.{plusZero}
 use Rattle.outline.specs.declared.Totals.{Totals}
+use Rattle.outline.specs.EdgeSums.{zeros}
 use Rattle.outline_answers.specs.declared.OutlineAnswer.{OutlineAnswer}
 use Rattle.outline_answers.specs.declared.OutlineAnswer.the-variants as outline
 use Rattle.outline_answers.specs.declared.PointAnswer.{PointAnswer}
 use Rattle.outline_answers.specs.declared.PointAnswer.the-variants as point
 use Rattle.outline_answers.specs.declared.PointReply.{PointReply}
+use Rattle.outline_answers.specs.declared.EntryAnswer.{EntryAnswer}
+use Rattle.outline_answers.specs.declared.EntryAnswer.the-variants as entry
+use Rattle.outline_answers.specs.declared.EntryReply.{EntryReply}
 use Rattle.outline_answers.specs.declared.EndAnswer.{EndAnswer}
 use Rattle.outline_answers.specs.declared.EndAnswer.the-variants as end
 use Rattle.outline_answers.specs.declared.EndReply.{EndReply}
 use Rattle.outline_answers.specs.ListAnswer.{reading}
-use Rattle.outline_answers.specs.WalkAnswers.{pointNumber, pointReading, endNumber, endTotals, endReading}
+use Rattle.outline_answers.specs.WalkAnswers.{pointNumber, pointReading, entryNumber, entryReading, endNumber, endTotals, endOutage, endReading}
 use Rattle.outline_answers.specs.declared.BeginAnswer.{BeginAnswer}
 use Rattle.outline_answers.specs.declared.BeginAnswer.the-variants as begin
 use Rattle.outline_answers.specs.declared.BeginReply.{BeginReply}
@@ -78,13 +85,30 @@ point-back point.Full = refl
 pub point-reading-one-to-one : (r s : PointReply) → pointReading r ≡ pointReading s → r ≡ s
 point-reading-one-to-one r s e = λ i. record { answer = (sym (point-back (r .answer)) ∙ ap (λ o. pointOf (o .number)) e ∙ point-back (s .answer)) i; walk = e i .walk }
 
+-- ---- an entry
+
+abbrev entryOf : ℕ → EntryAnswer
+entryOf n = cond (eqb n 28) entry.Impossible (cond (eqb n 21) entry.NotOpen (cond (eqb n 33) entry.NotFinite (cond (eqb n 34) entry.BelowZero (cond (eqb n 1) entry.OutsideLimits (cond (eqb n 23) entry.Full entry.Accepted)))))
+
+entry-back : (a : EntryAnswer) → entryOf (entryNumber a) ≡ a
+entry-back entry.Accepted = refl
+entry-back entry.Impossible = refl
+entry-back entry.NotOpen = refl
+entry-back entry.NotFinite = refl
+entry-back entry.BelowZero = refl
+entry-back entry.OutsideLimits = refl
+entry-back entry.Full = refl
+
+pub entry-reading-one-to-one : (r s : EntryReply) → entryReading r ≡ entryReading s → r ≡ s
+entry-reading-one-to-one r s e = λ i. record { answer = (sym (entry-back (r .answer)) ∙ ap (λ o. entryOf (o .number)) e ∙ entry-back (s .answer)) i; walk = e i .walk }
+
 -- ---- end
 
-abbrev endOf : ℕ → Totals → EndAnswer
-endOf n t = cond (eqb n 28) end.Impossible (cond (eqb n 21) end.NotOpen (cond (eqb n 24) end.TooFewPoints (cond (eqb n 32) end.ZeroArea (cond (eqb n 25) end.SheetFull (cond (eqb n 26) end.SheetExceeded (end.Accepted t))))))
+abbrev endOf : ℕ → Totals → Float → EndAnswer
+endOf n t o = cond (eqb n 28) end.Impossible (cond (eqb n 21) end.NotOpen (cond (eqb n 24) end.TooFewPoints (cond (eqb n 32) end.ZeroArea (cond (eqb n 25) end.SheetFull (cond (eqb n 26) end.SheetExceeded (end.Accepted t o))))))
 
-end-back : (a : EndAnswer) → endOf (endNumber a) (endTotals a) ≡ a
-end-back (end.Accepted t) = refl
+end-back : (a : EndAnswer) → endOf (endNumber a) (endTotals a) (endOutage a) ≡ a
+end-back (end.Accepted t o) = refl
 end-back end.Impossible = refl
 end-back end.NotOpen = refl
 end-back end.TooFewPoints = refl
@@ -93,7 +117,11 @@ end-back end.SheetFull = refl
 end-back end.SheetExceeded = refl
 
 pub end-reading-one-to-one : (r s : EndReply) → endReading r ≡ endReading s → r ≡ s
-end-reading-one-to-one r s e = λ i. record { answer = (sym (end-back (r .answer)) ∙ ap (λ o. endOf (o .number) (o .totals)) e ∙ end-back (s .answer)) i; walk = e i .walk; sheet = e i .sheet }
+end-reading-one-to-one r s e = λ i. record { answer = (sym (end-back (r .answer)) ∙ ap (λ o. endOf (o .number) (o .totals) (o .outage)) e ∙ end-back (s .answer)) i; walk = e i .walk; sheet = e i .sheet }
+
+-- Every refused end reads zeros and plus zero.
+refused-ends : map {B = Totals × Float} (λ a. (endTotals a, endOutage a)) (end.Impossible ∷ end.NotOpen ∷ end.TooFewPoints ∷ end.ZeroArea ∷ end.SheetFull ∷ end.SheetExceeded ∷ []) ≡ replicate 6 (zeros, plusZero)
+refused-ends = refl
 
 -- ---- the numbers by the names of the answers
 
@@ -102,7 +130,8 @@ record Numbered : Type 0 where
   begun : map beginNumber (begin.Impossible ∷ begin.AlreadyOpen ∷ []) ≡ 28 ∷ 22 ∷ []
   abandoned : map abandonNumber (abandon.Impossible ∷ abandon.NotOpen ∷ []) ≡ 28 ∷ 21 ∷ []
   pointed : map pointNumber (point.Impossible ∷ point.NotOpen ∷ point.OutsideLimits ∷ point.Full ∷ []) ≡ 28 ∷ 21 ∷ 1 ∷ 23 ∷ []
+  entered : map entryNumber (entry.Impossible ∷ entry.NotOpen ∷ entry.NotFinite ∷ entry.BelowZero ∷ entry.OutsideLimits ∷ entry.Full ∷ []) ≡ 28 ∷ 21 ∷ 33 ∷ 34 ∷ 1 ∷ 23 ∷ []
   ended : map endNumber (end.Impossible ∷ end.NotOpen ∷ end.TooFewPoints ∷ end.ZeroArea ∷ end.SheetFull ∷ end.SheetExceeded ∷ []) ≡ 28 ∷ 21 ∷ 24 ∷ 32 ∷ 25 ∷ 26 ∷ []
 
 numbered : Numbered
-numbered = record { list = refl; begun = refl; abandoned = refl; pointed = refl; ended = refl }
+numbered = record { list = refl; begun = refl; abandoned = refl; pointed = refl; entered = refl; ended = refl }

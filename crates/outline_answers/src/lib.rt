@@ -3,7 +3,7 @@
 ghost use mathlib.Core.Path.{_≡_};
 ghost use Rattle.outline.specs.EdgeSums.{zeros};
 ghost use Rattle.outline_answers.specs.ListAnswer.{reading as listReading};
-ghost use Rattle.outline_answers.specs.WalkAnswers.{beginNumber, pointNumber, endNumber, abandonNumber};
+ghost use Rattle.outline_answers.specs.WalkAnswers.{beginNumber, pointNumber, entryNumber, endNumber, abandonNumber};
 use outline::Sheet;
 use outline::Totals;
 use outline::Walk;
@@ -111,8 +111,42 @@ pub struct PointReply {
     pub walk: Walk,
 }
 
+// The answers of an entry of a receiver given to a walk (document 02, CR 9).
+pub enum EntryAnswer {
+    Accepted,
+    Impossible,
+    NotOpen,
+    NotFinite,
+    BelowZero,
+    OutsideLimits,
+    Full,
+}
+
+impl EntryAnswer {
+    // The number of the refusal in document 01 or 02, 0 where there is none.
+    pub fn number(self) -> u32
+        ensures { λ r. ⌜ r ≡ entryNumber self ⌝ }
+    {
+        match self {
+            EntryAnswer::Accepted => 0,
+            EntryAnswer::Impossible => 28,
+            EntryAnswer::NotOpen => 21,
+            EntryAnswer::NotFinite => 33,
+            EntryAnswer::BelowZero => 34,
+            EntryAnswer::OutsideLimits => 1,
+            EntryAnswer::Full => 23,
+        }
+    }
+}
+
+pub struct EntryReply {
+    pub answer: EntryAnswer,
+    pub walk: Walk,
+}
+
+// Where accepted: the totals, and the walk's longest outage.
 pub enum EndAnswer {
-    Accepted(Totals),
+    Accepted(Totals, f32),
     Impossible,
     NotOpen,
     TooFewPoints,
@@ -127,7 +161,7 @@ impl EndAnswer {
         ensures { λ r. ⌜ r ≡ endNumber self ⌝ }
     {
         match self {
-            EndAnswer::Accepted(_) => 0,
+            EndAnswer::Accepted(_, _) => 0,
             EndAnswer::Impossible => 28,
             EndAnswer::NotOpen => 21,
             EndAnswer::TooFewPoints => 24,

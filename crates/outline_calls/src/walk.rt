@@ -25,7 +25,7 @@ use walk_state::impossible_walk;
 use walk_state::new_walk;
 use walk_state::open_walk;
 
-// The walk with one point more, of the same kind.
+// The walk with one point more. Its kind and its longest outage stay.
 fn extended_walk(w: Walk, p: Position) -> Walk
     requires { ⌜ impossibleWalk w ≡ false ⌝ }
     requires { ⌜ w .is_open ≡ true ⌝ }
@@ -35,13 +35,14 @@ fn extended_walk(w: Walk, p: Position) -> Walk
 {
     let kind = w.kind;
     let totals = w.totals;
+    let outage = w.outage;
     if w.count == 0 {
-        return open_walk(kind, 1, p, p, totals);
+        return open_walk(kind, 1, p, p, totals, outage);
     }
     let first = w.first;
     let last = w.last;
     let sum = add_edge(totals, last, p);
-    open_walk(kind, w.count + 1, first, p, sum)
+    open_walk(kind, w.count + 1, first, p, sum, outage)
 }
 
 pub fn point(w: Walk, x: i32, y: i32) -> PointReply
@@ -168,7 +169,7 @@ fn add_to_sheet(w: Walk, ring: Totals, s: Sheet) -> EndReply
         totals: sums,
     };
     EndReply {
-        answer: EndAnswer::Accepted(added),
+        answer: EndAnswer::Accepted(added, w.outage),
         walk,
         sheet,
     }

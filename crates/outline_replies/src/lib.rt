@@ -1,10 +1,11 @@
-// What an answer of a call on outlines tells: its totals, zeros with every refusal; and three of the calls answered as a number and a buffer.
+// What an answer of a call on outlines tells: its totals, zeros with every refusal, and of an end the longest outage; and three of the calls answered as a number and a buffer.
 ghost use mathlib.Core.Path.{_≡_};
 ghost use mathlib.Core.List.{[], _∷_};
+ghost use Rattle.receiver.specs.Floats.{plusZero};
 ghost use Rattle.outline.specs.ListCall.{listCall};
 ghost use Rattle.outline.specs.MapCall.{mapCall};
 ghost use Rattle.outline_answers.specs.ListAnswer.{reading as listReading};
-ghost use Rattle.outline_answers.specs.WalkAnswers.{endTotals};
+ghost use Rattle.outline_answers.specs.WalkAnswers.{endTotals, endOutage};
 ghost use Rattle.affine.specs.Answer.{reading as mapReading};
 ghost use Rattle.centroid.specs.Centroid.{outlineCentroidCall};
 ghost use Rattle.centroid.specs.Answers.{reading as centreReading};
@@ -46,13 +47,35 @@ pub fn totals_of_end(answer: EndAnswer) -> Totals
     ensures { λ r. ⌜ r ≡ endTotals answer ⌝ }
 {
     match answer {
-        EndAnswer::Accepted(totals) => totals,
+        EndAnswer::Accepted(totals, _) => totals,
         EndAnswer::Impossible => no_totals(),
         EndAnswer::NotOpen => no_totals(),
         EndAnswer::TooFewPoints => no_totals(),
         EndAnswer::ZeroArea => no_totals(),
         EndAnswer::SheetFull => no_totals(),
         EndAnswer::SheetExceeded => no_totals(),
+    }
+}
+
+// The longest outage of a refusal.
+fn no_outage() -> f32
+    ensures { λ r. ⌜ r ≡ plusZero ⌝ }
+{
+    0.0
+}
+
+// The longest outage that an answer of the end of a walk tells.
+pub fn outage_of_end(answer: EndAnswer) -> f32
+    ensures { λ r. ⌜ r ≡ endOutage answer ⌝ }
+{
+    match answer {
+        EndAnswer::Accepted(_, outage) => outage,
+        EndAnswer::Impossible => no_outage(),
+        EndAnswer::NotOpen => no_outage(),
+        EndAnswer::TooFewPoints => no_outage(),
+        EndAnswer::ZeroArea => no_outage(),
+        EndAnswer::SheetFull => no_outage(),
+        EndAnswer::SheetExceeded => no_outage(),
     }
 }
 

@@ -154,10 +154,10 @@ abbrev pub answeredFor : Ring → Totals
 answeredFor g = turned (g .kind) (listCall (numbers (g .points)) .totals)
 
 -- An accepted end answers those of the ring, and adds them to the sheet.
-pub end-answers : (r : Trace) (s : Sheet) → IsOutline r → endCall (r .walk) s .number ≡ 0 → endCall (r .walk) s ≡ endedWith s (answeredFor (r .ring))
+pub end-answers : (r : Trace) (s : Sheet) → IsOutline r → endCall (r .walk) s .number ≡ 0 → endCall (r .walk) s ≡ endedWith s (answeredFor (r .ring)) (r .walk .outage)
 end-answers r s o z =
     let (h, e) = end-accepted (r .walk) s z in
-    e ∙ ap (endedWith s) (ap₂ turned (ap (λ (w : Walk). w .kind) (o .is-walk (h .closable .is-open))) (sym (ap (λ a. a .totals) (o .list-call-agrees (h .closable)))))
+    e ∙ ap (λ t. endedWith s t (r .walk .outage)) (ap₂ turned (ap (λ (w : Walk). w .kind) (o .is-walk (h .closable .is-open))) (sym (ap (λ a. a .totals) (o .list-call-agrees (h .closable)))))
 
 -- What it prints.
 pub end-prints : (n : ℕ) (r : Trace) (s : Sheet) → IsOutline r → endCall (r .walk) s .number ≡ 0 → (let g = r .ring in (listCall (numbers (g .points)) .number ≡ 0) × (carryOut n end (r .walk) s .output ≡ outlineLine (s .count + 1) (length (g .points)) (answeredFor g)))

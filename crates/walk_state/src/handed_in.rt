@@ -3,6 +3,7 @@ ghost use mathlib.Core.Path.{_≡_};
 ghost use mathlib.Core.Bool.{not, _&&_, _||_};
 ghost use lib.Dec.{eqb};
 ghost use Prim.Native.Nat.{_≤_};
+ghost use Rattle.receiver.specs.Floats.{notFinite, belowZero};
 ghost use Rattle.outline.specs.EdgeSums.{exceed};
 ghost use Rattle.outline.specs.ListCall.{outside};
 ghost use Rattle.outline.specs.WalkCalls.{share, impossibleWalk, impossibleSheet};
@@ -13,6 +14,8 @@ use outline::Sheet;
 use outline::Sizes;
 use outline::Totals;
 use outline::Walk;
+use receiver::below_zero;
+use receiver::not_finite;
 
 // The share of n points: n times 1/1,024 of each outline bound.
 fn exceeds_share(t: Totals, points: u32) -> bool
@@ -46,6 +49,13 @@ fn ends_outside(w: Walk) -> bool
     position_outside(last)
 }
 
+// Refusals 33 and 34 of the longest outage.
+fn outage_refused(seconds: f32) -> bool
+    ensures { λ r. ⌜ r ≡ (notFinite seconds || belowZero seconds) ⌝ }
+{
+    not_finite(seconds) | below_zero(seconds)
+}
+
 pub fn impossible_walk(w: Walk) -> bool
     ensures { λ r. ⌜ r ≡ impossibleWalk w ⌝ }
 {
@@ -59,7 +69,10 @@ pub fn impossible_walk(w: Walk) -> bool
         return true;
     }
     let t = w.totals;
-    exceeds_share(t, w.count)
+    if exceeds_share(t, w.count) {
+        return true;
+    }
+    outage_refused(w.outage)
 }
 
 pub fn impossible_sheet(s: Sheet) -> bool

@@ -25,11 +25,19 @@ const CLOSED: Walk = Walk {
     first: ORIGIN,
     last: ORIGIN,
     totals: ZEROS,
+    outage: 0.0,
 };
 
 // Every open walk is made here.
-pub fn open_walk(kind: Kind, count: u32, first: Position, last: Position, totals: Totals) -> Walk
-    ensures { λ r. ⌜ r ≡ openWalk kind count first last totals ⌝ }
+pub fn open_walk(
+    kind: Kind,
+    count: u32,
+    first: Position,
+    last: Position,
+    totals: Totals,
+    outage: f32,
+) -> Walk
+    ensures { λ r. ⌜ r ≡ openWalk kind count first last totals outage ⌝ }
 {
     Walk {
         is_open: true,
@@ -38,6 +46,7 @@ pub fn open_walk(kind: Kind, count: u32, first: Position, last: Position, totals
         first,
         last,
         totals,
+        outage,
     }
 }
 
@@ -72,7 +81,7 @@ pub fn begin(w: Walk, kind: Kind) -> BeginReply
             walk: w,
         };
     }
-    let opened = open_walk(kind, 0, ORIGIN, ORIGIN, ZEROS);
+    let opened = open_walk(kind, 0, ORIGIN, ORIGIN, ZEROS, 0.0);
     BeginReply {
         answer: BeginAnswer::Accepted,
         walk: opened,

@@ -3,6 +3,7 @@ use Prim.Native.Nat.{ℕ, zero, suc, _%_}
 use mathlib.Core.List.{List, [], _∷_, _++_}
 use lib.ListN.{getD}
 use lib.IntN.{ℤ, pos, negℤ}
+use Rattle.receiver.specs.Floats.{plusZero}
 use Rattle.outline.specs.declared.Kind.{Kind}
 use Rattle.outline.specs.declared.Kind.the-variants.{Island}
 use Rattle.outline.specs.declared.Position.{Position}
@@ -62,7 +63,7 @@ areaAlone a2 = record { a2 = a2; x6 = pos 0; y6 = pos 0; xx12 = pos 0; xy24 = po
 
 -- An open walk of so many points with this A2, an island, all else zero.
 abbrev pub handedIn : ℕ → ℤ → Walk
-handedIn count a2 = openWalk Island count origin origin (areaAlone a2)
+handedIn count a2 = openWalk Island count origin origin (areaAlone a2) plusZero
 
 -- Begin and three points.
 abbrev pub walkedTriangle : Kind → Position → Position → Position → Walk

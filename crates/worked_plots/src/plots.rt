@@ -144,6 +144,6 @@ pub(crate) fn handed_in(count: u32, a2: i64) -> EndReply
         xy24: 0,
         yy12: 0,
     };
-    let walk = walk_state::open_walk(Kind::Island, count, ORIGIN, ORIGIN, totals);
+    let walk = walk_state::open_walk(Kind::Island, count, ORIGIN, ORIGIN, totals, 0.0);
     outline_calls::end(walk, walk_state::new_sheet())
 }

@@ -1,3 +1,4 @@
 pub mod Worked
 pub mod Errors
 mod WholeGrid
+pub mod WorkedEntries

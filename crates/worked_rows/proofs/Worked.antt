@@ -1,6 +1,8 @@
 -- Document 01, "Plots worked by hand": the definitions give the figures of every row of the one list, by computation.
 use mathlib.Core.Path.{refl}
+use lib.Ieee.{lt}
 use Rattle.integers.specs.Search.{firstWhere}
+use Rattle.receiver.specs.Floats.{notFinite, belowZero}
 use Rattle.outline.specs.EdgeSums.{openEdges, edges, sumOver, over, exceed}
 use Rattle.outline.specs.ListCall.{points, numbers, outside, anyOutside, wrongLength, listCall}
 use Rattle.outline.specs.MapCall.{disallowed, mapCall}
@@ -25,7 +27,7 @@ worked = (refl, (refl, (refl, (refl, (refl, (refl, (refl, (refl, (refl, (refl, (
 
 -- The rings of document 02, CR 3.
 pub ring-rows : All holds ringRows
-unfolding over exceed outside extended hasSign turned zeroArea impossibleWalk impossibleSheet beginCall pointCall endCall numberOf walkAfter ringWith next after sheetAfter holds
+unfolding over exceed outside extended hasSign turned zeroArea notFinite belowZero lt impossibleWalk impossibleSheet beginCall pointCall endCall numberOf walkAfter ringWith next after sheetAfter holds
 ring-rows = (refl, (refl, (refl, (refl, (refl, (refl, (refl, (refl, (refl, (refl, (refl, tt)))))))))))
 
 -- The two walkers of document 02, CR 5.

@@ -1,5 +1,5 @@
 -- Document 01, "Plots worked by hand": the plots marked ✱ as one list of rows, each what is asked and the figures that are answered, the run's as document 02,
--- CR 2, has them; the rings of document 02, CR 3, its two walkers, CR 5, and its moves, CR 7 (its runs, CR 8, stand in RunRows); and rows for "Errors a surveyor would not notice".
+-- CR 2, has them; the rings of document 02, CR 3, its two walkers, CR 5, and its moves, CR 7 (its runs, CR 8, stand in RunRows, and its entries, CR 9, in EntryRows); and rows for "Errors a surveyor would not notice".
 use Prim.Native.Nat.{ℕ}
 use mathlib.Core.Path.{_≡_}
 use mathlib.Core.Bool.{true, false}
@@ -16,8 +16,7 @@ use Rattle.outline.specs.ListCall.{Outcome, accepted, refused as notAccepted, n
 use Rattle.outline.specs.MapCall.{moved, mapCall}
 use Rattle.outline.specs.Pieces.{Piece, Cut, piecesOf, startAt, totalsOf}
 use Rattle.outline.specs.WalkCalls.{closed, sheetOf, newSheet, endCall}
-use Rattle.outline.specs.CallLists.{Ring, after, from, sheetAfter}
-use Rattle.outline.specs.EveryOutline.{ringCalls}
+use Rattle.outline.specs.CallLists.{begin, point, Ring, ringOf, after, from, sheetAfter}
 use Rattle.two_walks.specs.Comparison.{FiguresOutcome, figuresCall, Part, partOf}
 use Rattle.centroid.specs.Centroid.{CentroidOutcome, refused, outlineCentroidCall}
 use Rattle.moves.specs.Composition.{composed}
@@ -58,7 +57,7 @@ areaAndX6 p = (totalsOf p .a2, totalsOf p .x6)
 
 -- The walk that begin and the points of a ring leave.
 abbrev walkedRing : Ring → Walk
-walkedRing g = after (from closed) (ringCalls g) .walk
+walkedRing g = after (from closed) (begin (g .kind) ∷ map point (g .points)) .walk
 
 abbrev endOf : Ring → Outcome
 endOf g = let e = endCall (walkedRing g) newSheet in record { number = e .number; totals = e .totals }
@@ -152,10 +151,10 @@ abbrev pub figureEightAndOne : List Position
 figureEightAndOne = figureEight ++ at (pos 1) (pos 1) ∷ []
 
 abbrev island : List Position → Ring
-island ps = record { kind = Island; points = ps }
+island ps = ringOf Island ps
 
 abbrev hole : List Position → Ring
-hole ps = record { kind = Hole; points = ps }
+hole ps = ringOf Hole ps
 
 -- Each ring as it is walked first, and back; then the sheets of the listing, of the listing with one more end, of a plot with a pond, and of a plot all taken off.
 abbrev pub ringRows : List Row

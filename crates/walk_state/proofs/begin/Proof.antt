@@ -2,6 +2,7 @@
 use mathlib.Core.Path.{_≡_}
 use mathlib.Core.Bool.{false}
 use borrow.Author.Needs.{needs}
+use lib.Ieee.{ofBits}
 use Rattle.outline.specs.WalkCalls.{impossibleWalk, beginCall}
 use Rattle.integers.proofs.Flags.{tells}
 use Rattle.walk_state.proofs.begin.Statement.{statement}
@@ -25,7 +26,7 @@ open-walk-requires : tie.Need-open-walk-requires
 open-walk-requires c κs = search needs
 
 returns-3 : tie.Need-returns-3
-unfolding beginCall
+unfolding beginCall ofBits
 returns-3 c = let not-22 = c .before in rw (not-28 (not-22 .before), not-22 .if2 .left) (λ i. record { number = 0; walk = c .open-walk .ensures i })
 
 pub begin-spec : {M : Type 1} → statement M

@@ -93,7 +93,7 @@ returns-2 c =
     let s = start (tested c) in
     let past = s .pre .1 .1 in
     rw (s .pre .0, s .pre .1 .0, past .0, le-ltb _ _ (past .1 .0), past .1 .1 .0, lt-leb _ _ (has-room s), tells (asked (tested c)) (within .if1 .left))
-    (λ i. record { number = 0; totals = added at-turn i; walk = c .before .new-walk .ensures i; sheet = sheetOf (s .args .s .count + 1) (sums summed i) })
+    (λ i. record { number = 0; totals = added at-turn i; outage = s .args .w .outage; walk = c .before .new-walk .ensures i; sheet = sheetOf (s .args .s .count + 1) (sums summed i) })
 
 pub add-to-sheet-spec : {M : Type 1} → statement M
 add-to-sheet-spec =

@@ -36,7 +36,7 @@ returns-2 c =
     let not-first = added .before .before .before in
     let s = not-first .before .before .before in
     let w = s .args .w in
-    rw (ne-eqb _ _ (not-first .if1 .left)) (c .open-walk2 .ensures ∙ ap (openWalk (w .kind) (w .count + 1) (w .first) (s .args .p)) (added .add-edge .ensures))
+    rw (ne-eqb _ _ (not-first .if1 .left)) (c .open-walk2 .ensures ∙ ap (λ t. openWalk (w .kind) (w .count + 1) (w .first) (s .args .p) t (w .outage)) (added .add-edge .ensures))
 
 pub extended-walk-spec : {M : Type 1} → statement M
 extended-walk-spec = tie.close (tie.spec open-walk-requires returns add-edge-requires add-open-walk open-walk-requires-2 returns-2)

@@ -37,11 +37,25 @@ exceeds-share-requires c κs = search needs
 returns-4 : tie.Need-returns-4
 unfolding impossibleWalk
 returns-4 c =
-    let inside = c .before .before in
+    let shared = c .before in
+    let inside = shared .before .before in
     let few = inside .before .before in
-    rw (is-open (few .before .before), not-many few, tells (inside .before .ends-outside .ensures) (inside .if3 .left)) (c .exceeds-share .ensures)
+    rw (is-open (few .before .before), not-many few, tells (inside .before .ends-outside .ensures) (inside .if3 .left), tells (shared .exceeds-share .ensures) (c .if4 .taken))
+
+outage-refused-requires : tie.Need-outage-refused-requires
+outage-refused-requires c κs = search needs
+
+returns-5 : tie.Need-returns-5
+unfolding impossibleWalk
+returns-5 c =
+    let within = c .before in
+    let shared = within .before in
+    let inside = shared .before .before in
+    let few = inside .before .before in
+    rw (is-open (few .before .before), not-many few, tells (inside .before .ends-outside .ensures) (inside .if3 .left), tells (shared .exceeds-share .ensures) (within .if4 .left))
+    (c .outage-refused .ensures)
 
 pub impossible-walk-spec : {M : Type 1} → statement M
 impossible-walk-spec =
     tie.close
-    (tie.spec returns returns-2 ends-outside-requires returns-3 exceeds-share-requires returns-4)
+    (tie.spec returns returns-2 ends-outside-requires returns-3 exceeds-share-requires returns-4 outage-refused-requires returns-5)

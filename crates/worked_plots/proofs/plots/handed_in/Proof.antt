@@ -2,6 +2,7 @@
 use mathlib.Core.Path.{_≡_, _∙_}
 use borrow.Author.Needs.{needs}
 use mir.Facts.{toZ-ofZ}
+use lib.Ieee.{ofBits}
 use Rattle.outline.specs.WalkCalls.{endCall}
 use Rattle.worked_plots.specs.Plots.{handedIn}
 use Rattle.worked_plots.proofs.plots.handed_in.Statement.{statement}
@@ -18,6 +19,7 @@ end-requires c κs = search needs
 
 -- The walk that `open_walk` has made.
 made : (c : tie.After-open-walk) → c .open-walk .result ≡ handedIn (c .before .args .count) (c .before .args .a2)
+unfolding ofBits
 made c = c .open-walk .ensures ∙ (λ i. handedIn (c .before .args .count) (toZ-ofZ (c .before .fits .a2) i))
 
 returns : tie.Need-returns
