@@ -1,0 +1,5 @@
+mod Quotients
+mod BySize
+mod CoordinateLaws
+mod PointCases
+pub mod ReadingLaw

@@ -1,0 +1,2 @@
+pub mod FixAnswers
+pub mod private
