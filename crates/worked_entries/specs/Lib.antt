@@ -1,0 +1,4 @@
+pub mod BitFloats
+pub mod Calls
+pub mod Draws
+pub mod FullWalk
