@@ -1,13 +1,16 @@
 """Outlines, walks, sheets and centres of document 01, straight from its rules; islands
-and holes as CR 3 of document 02 has them.
+and holes as CR 3 of document 02 has them, the walk's longest outage as CR 9 has it.
 
-Maps and cuts are in moves.py, cells in cells.py, two walkers in walkers.py.  Whole
-numbers only.  Every call answers a refusal number first; 0 means that the call was
-accepted.  A refused call answers zeros and changes nothing.
+Maps and cuts are in moves.py, cells in cells.py, two walkers in walkers.py, a receiver's
+entries in receiver.py.  Whole numbers only: an outage stands by the bits of its float.
+Every call answers a refusal number first; 0 means that the call was accepted.  A refused
+call answers zeros and changes nothing.
 """
 from enum import Enum
 from operator import add, gt, neg
 from typing import NamedTuple
+
+from floats import PLUS_ZERO, outage_refusal
 
 COORDINATE_LIMIT = 2_000
 LEAST_POINTS = 3
@@ -42,6 +45,7 @@ class Walk(NamedTuple):
     first: tuple
     last: tuple
     totals: Totals
+    longest_outage: int    # the bits of a float
 
 
 class Sheet(NamedTuple):
@@ -59,7 +63,7 @@ OUTLINE_BOUNDS = Totals(8_192_000_000,
 WALK_BOUNDS = [Totals(*(count * bound // MOST_POINTS for bound in OUTLINE_BOUNDS))
                for count in range(MOST_POINTS + 1)]
 SHEET_BOUNDS = Totals(*[TOTAL_LIMIT] * 6)
-CLOSED_WALK = Walk(False, Kind.ISLAND, 0, (0, 0), (0, 0), ZERO_TOTALS)
+CLOSED_WALK = Walk(False, Kind.ISLAND, 0, (0, 0), (0, 0), ZERO_TOTALS, PLUS_ZERO)
 FRESH_ISLAND = CLOSED_WALK._replace(is_open=True)
 FRESH_HOLE = FRESH_ISLAND._replace(kind=Kind.HOLE)
 NEW_SHEET = Sheet(0, ZERO_TOTALS)
@@ -122,10 +126,10 @@ def list_call(numbers):
 # Walk and sheet
 
 def walk_is_turned_back(walk):
-    """The walk's half of 28, which looks at an open walk only."""
+    """The walk's half of 28, which looks at an open walk only; since CR 9 also at its longest outage."""
     if not walk.is_open:
         return False
-    if walk.count > MOST_POINTS:
+    if walk.count > MOST_POINTS or outage_refusal(walk.longest_outage) != ACCEPTED:
         return True
     if walk.count > 0 and not (within_limits(walk.first) and within_limits(walk.last)):
         return True
@@ -188,22 +192,27 @@ def add_to_sheet(sheet, totals):
     return ACCEPTED, sheet._replace(count=sheet.count + 1, totals=sums)
 
 
+def refused_end(number, walk, sheet):
+    """What a refused end answers, with the walk and the sheet as they were."""
+    return number, ZERO_TOTALS, PLUS_ZERO, walk, sheet
+
+
 def end(walk, sheet):
-    """(number, totals, walk afterwards, sheet afterwards).  Order 28, 21, 24, 32, 25, 26."""
+    """(number, totals, longest outage, walk afterwards, sheet afterwards).  Order 28, 21, 24, 32, 25, 26."""
     if walk_is_turned_back(walk) or sheet_is_turned_back(sheet):
-        return 28, ZERO_TOTALS, walk, sheet
+        return refused_end(28, walk, sheet)
     if not walk.is_open:
-        return 21, ZERO_TOTALS, walk, sheet
+        return refused_end(21, walk, sheet)
     if walk.count < LEAST_POINTS:
-        return 24, ZERO_TOTALS, walk, sheet
+        return refused_end(24, walk, sheet)
     totals = closed_totals(walk)
     if totals.a2 == 0:
-        return 32, ZERO_TOTALS, walk, sheet
+        return refused_end(32, walk, sheet)
     totals = turned(walk.kind, totals)
     number, sheet_afterwards = add_to_sheet(sheet, totals)
     if number != ACCEPTED:
-        return number, ZERO_TOTALS, walk, sheet
-    return ACCEPTED, totals, CLOSED_WALK, sheet_afterwards
+        return refused_end(number, walk, sheet)
+    return ACCEPTED, totals, walk.longest_outage, CLOSED_WALK, sheet_afterwards
 
 
 def abandon(walk):

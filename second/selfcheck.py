@@ -2,7 +2,8 @@
 corner cases of its rules, and its laws on made-up outlines; those of islands and
 holes are in selfcheck_rings.py, those of cells and masks in selfcheck_cells.py, those of
 two walkers in selfcheck_walkers.py, those of the annex in selfcheck_annex.py, those of
-moving twice in selfcheck_moves.py, those of the run that a refusal names in selfcheck_runs.py.
+moving twice in selfcheck_moves.py, those of the run that a refusal names in selfcheck_runs.py,
+those of a receiver's entries in selfcheck_receiver.py and selfcheck_entries.py.
 
 Runnable; prints what fails and exits 1, else prints how many checks passed.
 """
@@ -15,14 +16,18 @@ from figures import CLOSED_WALK, FRESH_ISLAND, NEW_SHEET, OUTLINE_BOUNDS, ZERO_T
 from figures import Kind, Sheet, Totals
 from figures import abandon, added, begin, centre_of_totals, closed_totals, edge_terms, end
 from figures import list_call, outline_totals, point, within_limits
+from floats import PLUS_ZERO
 from inputs import FIGURE_EIGHT, LISTING, RECTANGLE, UNIT_SQUARE, with_tabs
 from madeup import random_points
 from moves import AffineMap, Cut
 from moves import after_cuts, map_call, moved, started_at, walked_backwards
 from selfcheck_annex import check_comparison, check_entries, check_run_sums
 from selfcheck_cells import check_mask_corners, check_mask_laws, check_region_corners, check_worked_regions
+from selfcheck_entries import check_entry_lists, check_entry_rows
 from selfcheck_moves import check_formulas, check_move_corners, check_outline_moved_twice, check_shifted_centre
 from selfcheck_moves import check_shifted_outline, check_three_calls, check_worked_moves, check_wrong_compositions
+from selfcheck_receiver import check_handed_in, check_longest, check_orders, check_refused_ends, check_sweep
+from selfcheck_receiver import check_worked_fixes
 from selfcheck_rings import check_end_order, check_kinds, check_ring_laws, check_turns, check_worked_rings
 from selfcheck_runs import check_fronts, check_worked_lists
 from selfcheck_walkers import check_refused_pair, check_walker_corners, check_walker_laws, check_worked_walks
@@ -81,12 +86,12 @@ def check_walk_corners():
     check("closed, begin", begin(odd_closed, Kind.ISLAND), (0, FRESH_ISLAND))
     check("closed, point", point(odd_closed, (2001, 0)), (21, odd_closed))
     check("closed, abandon", abandon(odd_closed), (21, odd_closed))
-    check("closed, end", end(odd_closed, NEW_SHEET), (21, ZERO_TOTALS, odd_closed, NEW_SHEET))
-    check("bad sheet", end(odd_closed, full_sheet), (28, ZERO_TOTALS, odd_closed, full_sheet))
+    check("closed, end", end(odd_closed, NEW_SHEET), (21, ZERO_TOTALS, PLUS_ZERO, odd_closed, NEW_SHEET))
+    check("bad sheet", end(odd_closed, full_sheet), (28, ZERO_TOTALS, PLUS_ZERO, odd_closed, full_sheet))
     no_points = FRESH_ISLAND._replace(first=(99999, -5))
     check("no points, begin", begin(no_points, Kind.ISLAND), (22, no_points))
     check("no points, point", point(no_points, (3, 4)), (0, FRESH_ISLAND._replace(count=1, first=(3, 4), last=(3, 4))))
-    check("no points, end", end(no_points, NEW_SHEET), (24, ZERO_TOTALS, no_points, NEW_SHEET))
+    check("no points, end", end(no_points, NEW_SHEET), (24, ZERO_TOTALS, PLUS_ZERO, no_points, NEW_SHEET))
     check("no points, abandon", abandon(no_points), (0, CLOSED_WALK))
     bad = no_points._replace(totals=ZERO_TOTALS._replace(a2=1))
     check("no points with area", abandon(bad), (28, bad))
@@ -155,7 +160,7 @@ def check_text_beside_calls(rng):
         elif line == "A":
             number, walk = abandon(walk)
         elif line == "E":
-            number, totals, walk, sheet = end(walk, sheet)
+            number, totals, _, walk, sheet = end(walk, sheet)
             if number == 0:
                 centre = centre_of_totals(totals)
                 shown_centre = centre[1:] if centre[0] == 0 else ("-", "-")
@@ -191,6 +196,12 @@ if __name__ == "__main__":
     check_move_corners()
     check_wrong_compositions()
     check_worked_lists()
+    check_worked_fixes()
+    check_orders()
+    check_longest()
+    check_refused_ends()
+    check_handed_in()
+    check_entry_rows()
     made_up = random.Random(1)
     for _ in range(200):
         reach = made_up.choice([2, 30, 500, 2000])
@@ -210,6 +221,8 @@ if __name__ == "__main__":
         check_three_calls(made_up)
         check_shifted_centre(made_up)
     check_fronts(made_up)
+    check_sweep(made_up)
+    check_entry_lists(made_up)
     for failure in failed:
         print(failure)
     print(f"{len(passed)} checks passed, {len(failed)} failed")

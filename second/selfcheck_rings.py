@@ -6,6 +6,7 @@ from checks import check
 from figures import CLOSED_WALK, FRESH_HOLE, FRESH_ISLAND, NEW_SHEET, TOTAL_LIMIT, ZERO_TOTALS
 from figures import Kind, Sheet, Totals
 from figures import abandon, begin, closed_totals, end, list_call, point
+from floats import PLUS_ZERO
 from inputs import FIGURE_EIGHT, HOLE, ISLAND, LISTING, POND, RECTANGLE, UNIT_SQUARE
 from inputs import every_way, joined, outline_lines, with_tabs
 from moves import walked_backwards
@@ -63,7 +64,7 @@ def check_kinds():
     check("a closed walk's kind", CLOSED_WALK.kind, Kind.ISLAND)
     closed_hole = CLOSED_WALK._replace(kind=Kind.HOLE, count=7)
     check("closed hole, point", point(closed_hole, (1, 1)), (21, closed_hole))
-    check("closed hole, end", end(closed_hole, NEW_SHEET), (21, ZERO_TOTALS, closed_hole, NEW_SHEET))
+    check("closed hole, end", end(closed_hole, NEW_SHEET), (21, ZERO_TOTALS, PLUS_ZERO, closed_hole, NEW_SHEET))
     check("closed hole, abandon", abandon(closed_hole), (21, closed_hole))
     for kind, fresh in FRESH_WALKS.items():
         check("a fresh walk's kind", fresh.kind, kind)
@@ -77,7 +78,7 @@ def check_kinds():
             check("abandoned", abandon(walk), (0, CLOSED_WALK))
             number, walk = point(walk, place)
             check("point keeps the kind", (number, walk.kind), (0, kind))
-        check("ended", end(walk, NEW_SHEET)[2], CLOSED_WALK)
+        check("ended", end(walk, NEW_SHEET)[3], CLOSED_WALK)
         long_walk = walked(UNIT_SQUARE * 256, kind)
         check("23 keeps the walk", point(long_walk, (5, 5)), (23, long_walk))
         impossible = fresh._replace(count=1025)
@@ -93,20 +94,20 @@ def check_end_order():
     for kind, sign in SIGNS.items():
         eight = walked(FIGURE_EIGHT, kind)
         two_points = walked(FIGURE_EIGHT[:2], kind)
-        check("28 before 32", end(eight, past), (28, ZERO_TOTALS, eight, past))
-        check("24 before 32", end(two_points, full), (24, ZERO_TOTALS, two_points, full))
-        check("32 before 25", end(eight, full), (32, ZERO_TOTALS, eight, full))
+        check("28 before 32", end(eight, past), (28, ZERO_TOTALS, PLUS_ZERO, eight, past))
+        check("24 before 32", end(two_points, full), (24, ZERO_TOTALS, PLUS_ZERO, two_points, full))
+        check("32 before 25", end(eight, full), (32, ZERO_TOTALS, PLUS_ZERO, eight, full))
         for x6 in (-TOTAL_LIMIT, TOTAL_LIMIT):
             sheet = sheet_with(1, x6)    # the figure eight's X6 is -8
-            check("32 before 26", end(eight, sheet), (32, ZERO_TOTALS, eight, sheet))
+            check("32 before 26", end(eight, sheet), (32, ZERO_TOTALS, PLUS_ZERO, eight, sheet))
         with_area = walked(UNIT_SQUARE, kind)
         limits = Sheet(64, Totals(*[sign * TOTAL_LIMIT] * 6))
-        check("25 before 26", end(with_area, limits), (25, ZERO_TOTALS, with_area, limits))
-        check("32", end(eight, NEW_SHEET), (32, ZERO_TOTALS, eight, NEW_SHEET))
-        number, walk = point(end(eight, NEW_SHEET)[2], (1, 1))
+        check("25 before 26", end(with_area, limits), (25, ZERO_TOTALS, PLUS_ZERO, with_area, limits))
+        check("32", end(eight, NEW_SHEET), (32, ZERO_TOTALS, PLUS_ZERO, eight, NEW_SHEET))
+        number, walk = point(end(eight, NEW_SHEET)[3], (1, 1))
         check("one more point", (number, walk.count, walk.kind), (0, 5, kind))
         wanted = times(sign, (2, 10, 6, 34, 40, 14))
-        check("one more end", end(walk, NEW_SHEET), (0, wanted, CLOSED_WALK, Sheet(1, wanted)))
+        check("one more end", end(walk, NEW_SHEET), (0, wanted, PLUS_ZERO, CLOSED_WALK, Sheet(1, wanted)))
 
 
 def check_turns():
@@ -119,8 +120,8 @@ def check_turns():
         afterwards = Sheet(2, (sign * (3 - TOTAL_LIMIT), *totals[1:]))
         for square in every_way(UNIT_SQUARE):
             walk = walked(square, kind)
-            check("26 by the turn", end(walk, near), (26, ZERO_TOTALS, walk, near))
-            check("no 26 by the turn", end(walk, far), (0, totals, CLOSED_WALK, afterwards))
+            check("26 by the turn", end(walk, near), (26, ZERO_TOTALS, PLUS_ZERO, walk, near))
+            check("no 26 by the turn", end(walk, far), (0, totals, PLUS_ZERO, CLOSED_WALK, afterwards))
             for total in range(6):
                 most = sign * TOTAL_LIMIT - totals[total]
                 check("up to the limit", end(walk, sheet_with(total, most))[:2], (0, totals))
@@ -128,9 +129,9 @@ def check_turns():
         for a2 in (24_000_000, -24_000_000):
             handed_in = FRESH_WALKS[kind]._replace(count=3, totals=ZERO_TOTALS._replace(a2=a2))
             wanted = ZERO_TOTALS._replace(a2=sign * 24_000_000)
-            check("handed in", end(handed_in, NEW_SHEET), (0, wanted, CLOSED_WALK, Sheet(1, wanted)))
+            check("handed in", end(handed_in, NEW_SHEET), (0, wanted, PLUS_ZERO, CLOSED_WALK, Sheet(1, wanted)))
         no_area = FRESH_WALKS[kind]._replace(count=3, totals=ZERO_TOTALS._replace(x6=5))
-        check("handed in without area", end(no_area, NEW_SHEET), (32, ZERO_TOTALS, no_area, NEW_SHEET))
+        check("handed in without area", end(no_area, NEW_SHEET), (32, ZERO_TOTALS, PLUS_ZERO, no_area, NEW_SHEET))
         closing = no_area._replace(first=(0, 1), last=(1, 0))
         check("handed in, area by the closing edge", end(closing, NEW_SHEET)[1], times(sign, (1, 6, 1, 1, 1, 1)))
         undone = closing._replace(totals=ZERO_TOTALS._replace(a2=-1))
@@ -146,11 +147,11 @@ def check_ring_laws(outline):
         for ring in every_way(outline):
             walk = walked(ring, kind)
             if whole.a2 == 0:
-                check("no area", end(walk, sheet), (32, ZERO_TOTALS, walk, sheet))
+                check("no area", end(walk, sheet), (32, ZERO_TOTALS, PLUS_ZERO, walk, sheet))
                 continue
             wanted = times(sign if whole.a2 > 0 else -sign, whole)
             sums = tuple(map(sum, zip(sheet.totals, wanted)))
-            check("every way", end(walk, sheet), (0, wanted, CLOSED_WALK, Sheet(4, sums)))
+            check("every way", end(walk, sheet), (0, wanted, PLUS_ZERO, CLOSED_WALK, Sheet(4, sums)))
         there_and_back = walked(outline + walked_backwards(outline), kind)
         check("there and back", closed_totals(there_and_back), ZERO_TOTALS)
-        check("there and back, end", end(there_and_back, sheet), (32, ZERO_TOTALS, there_and_back, sheet))
+        check("there and back, end", end(there_and_back, sheet), (32, ZERO_TOTALS, PLUS_ZERO, there_and_back, sheet))

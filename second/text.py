@@ -69,7 +69,7 @@ class TextProgram:
     def end(self):
         """An accepted end prints its outline."""
         points = self.walk.count
-        number, totals, self.walk, self.sheet = end(self.walk, self.sheet)
+        number, totals, _, self.walk, self.sheet = end(self.walk, self.sheet)
         if number == ACCEPTED:
             self.printed.append(written("O", self.sheet.count, points, *totals_and_centre(totals)))
         return number

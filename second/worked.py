@@ -75,7 +75,7 @@ def sheet_row(earlier):
     Answered: number and totals of its end, then the sheet."""
     walk, sheet = CLOSED_WALK, NEW_SHEET
     for _ in range(earlier + 1):
-        number, totals, walk, sheet = end(walked(SQUARE * 256, walk=walk), sheet)
+        number, totals, _, walk, sheet = end(walked(SQUARE * 256, walk=walk), sheet)
     return ["sheet", earlier, number, *totals, sheet.count, *sheet.totals]
 
 
@@ -89,7 +89,7 @@ def walk_row(count, a2):
     """An open walk handed in.  Asked: points, A2.
     Answered: number, six totals of its end, the sheet's count."""
     walk = FRESH_ISLAND._replace(count=count, totals=ZERO_TOTALS._replace(a2=a2))
-    number, totals, _, sheet = end(walk, NEW_SHEET)
+    number, totals, _, _, sheet = end(walk, NEW_SHEET)
     return ["walk", count, a2, number, *totals, sheet.count]
 
 
@@ -97,7 +97,7 @@ def ring_row(kind, points, a2):
     """A triangle walked as a ring, on a sheet of one outline.  Asked: kind, three points, the sheet's A2.
     Answered: number and totals of its end, how many points the walk then has, the sheet."""
     sheet = Sheet(count=1, totals=ZERO_TOTALS._replace(a2=a2))
-    number, totals, walk, sheet = end(walked(points, kind), sheet)
+    number, totals, _, walk, sheet = end(walked(points, kind), sheet)
     return ["ring", kind.value, *numbers_of(points), a2, number, *totals, walk.count, sheet.count, *sheet.totals]
 
 

@@ -1,44 +1,19 @@
 /*
- * Document 01's rectangle and unit square, and two walks, runs and masks as document 02 has them, through mavrihkel.h; each refusal once, of two walks in every order, and of runs where several are
- * wrong; a buffer that is too short. Totals of cells are also compared with those that an independent loop takes cell by cell. Ends with 1 if an answer is wrong.
+ * Document 01's rectangle and unit square, and two walks, fixes, runs and masks as document 02 has them, through mavrihkel.h; each refusal once, of two walks in every order, and of runs where several
+ * are wrong; a buffer that is too short. Totals of cells are also compared with those that an independent loop takes cell by cell. Ends with 1 if an answer is wrong.
  */
 #include <inttypes.h>
 #include <stdio.h>
 #include <string.h>
 
+#include "expect.h"
+#include "ground.h"
 #include "mavrihkel.h"
 
-/* One entry more than any call writes, which it must leave alone. */
-#define ROOM (MAVRIHKEL_COMPARISON + 1)
-#define UNTOUCHED INT64_MIN
-
-static int wrong = 0;
-static int64_t out[ROOM];
-
-/* Clears the buffer before a call. */
-static int64_t *fresh(void)
-{
-    for (size_t k = 0; k < ROOM; k++) out[k] = UNTOUCHED;
-    return out;
-}
-
-/* The number and the values at the front; all behind them is untouched. */
-static void expect(const char *what, uint32_t number, uint32_t wanted, const int64_t *values, size_t count)
-{
-    int right = number == wanted;
-    printf("%s: %" PRIu32, what, number);
-    for (size_t k = 0; k < ROOM; k++) {
-        right = right && out[k] == (k < count ? values[k] : UNTOUCHED);
-        if (k < count) printf(" %" PRId64, out[k]);
-    }
-    puts(right ? "" : "  WRONG");
-    wrong = wrong || !right;
-}
-
-#define LENGTH(list) (sizeof(list) / sizeof((list)[0]))
 #define TOTALS(t) (t)[0], (t)[1], (t)[2], (t)[3], (t)[4], (t)[5]
 
 static const int32_t rectangle[] = {2, 0, 10, 4, 8, 8, 0, 4};
+static const int64_t rectangle_totals[] = {80, 1200, 960, 14720, 21120, 8960};
 static const int32_t square[] = {0, 0, 1, 0, 1, 1, 0, 1};
 static const int32_t far_off[] = {0, 0, 2001, 0, 0, 1};
 
@@ -91,35 +66,51 @@ static void check_walks(void)
     expect("room for none", mavrihkel_compare_walks(many, LENGTH(many), far_off, LENGTH(far_off), fresh(), 0), MAVRIHKEL_SHORT_BUFFER, NULL, 0);
 }
 
-/* ---- cells, each by the edges of its square */
+/* ---- fixes of a receiver */
 
-static void add_edge(int64_t *totals, int64_t x, int64_t y, int64_t p, int64_t q)
+/* A float by its bits, the number of a fix that has it, and the coordinate that it becomes. */
+static const struct {
+    uint32_t bits;
+    uint32_t number;
+    int64_t rounded;
+} floats[] = {
+    {0xC4FA1000, 0, -2000}, {0xC4FA1001, 1, 0}, {0x44FA0FFF, 0, 2000}, {0x44FA1000, 1, 0}, {0x3EFFFFFF, 0, 0}, {0x3F000000, 0, 1}, {0xBF000000, 0, 0}, {0xBF000001, 0, -1},
+    {0x3FC00000, 0, 2}, {0xBFC00000, 0, -1}, {0x00000000, 0, 0}, {0x80000000, 0, 0}, {0x00000001, 0, 0}, {0x80000001, 0, 0}, {0x7F7FFFFF, 1, 0}, {0xFF7FFFFF, 1, 0},
+    {0x7F800000, 33, 0}, {0xFF800000, 33, 0}, {0x7FC00000, 33, 0}, {0xFFC00000, 33, 0}, {0x7F800001, 33, 0}, {0xFFFFFFFF, 33, 0},
+};
+
+static float float_of(uint32_t bits)
 {
-    int64_t c = x * q - p * y;
-    totals[0] += c;
-    totals[1] += (x + p) * c;
-    totals[2] += (y + q) * c;
-    totals[3] += (x * x + x * p + p * p) * c;
-    totals[4] += (2 * x * y + x * q + p * y + 2 * p * q) * c;
-    totals[5] += (y * y + y * q + q * q) * c;
+    float value;
+    memcpy(&value, &bits, sizeof value);
+    return value;
 }
 
-static void add_cell(int64_t *totals, int64_t x, int64_t y)
+static void check_fixes(void)
 {
-    add_edge(totals, x, y, x + 1, y);
-    add_edge(totals, x + 1, y, x + 1, y + 1);
-    add_edge(totals, x + 1, y + 1, x, y + 1);
-    add_edge(totals, x, y + 1, x, y);
+    const float infinite = float_of(0x7F800000), no_number = float_of(0x7FC00000);
+    const int64_t zeros[MAVRIHKEL_POINT] = {0};
+    int32_t points[LENGTH(rectangle)];
+    for (size_t k = 0; k < LENGTH(floats); k++) {
+        const float value = float_of(floats[k].bits);
+        const int accepted = floats[k].number == 0;
+        const int64_t as_east[] = {floats[k].rounded, accepted ? 7 : 0}, as_north[] = {accepted ? -7 : 0, floats[k].rounded};
+        printf("%08" PRIX32 " ", floats[k].bits);
+        expect("as east", mavrihkel_fix_point(value, 7, fresh(), ROOM), floats[k].number, as_east, MAVRIHKEL_POINT);
+        expect("as north", mavrihkel_fix_point(-7, value, fresh(), ROOM), floats[k].number, as_north, MAVRIHKEL_POINT);
+        expect("room for one", mavrihkel_fix_point(value, value, fresh(), MAVRIHKEL_POINT - 1), MAVRIHKEL_SHORT_BUFFER, NULL, 0);
+        expect("room for none", mavrihkel_fix_point(-7, value, fresh(), 0), MAVRIHKEL_SHORT_BUFFER, NULL, 0);
+    }
+    expect("infinite, and 2,000.5", mavrihkel_fix_point(infinite, 2000.5f, fresh(), MAVRIHKEL_POINT), 33, zeros, MAVRIHKEL_POINT);
+    expect("2,000.5, and no number", mavrihkel_fix_point(2000.5f, no_number, fresh(), MAVRIHKEL_POINT), 33, zeros, MAVRIHKEL_POINT);
+    for (size_t k = 0; k < LENGTH(points); k += 2) {
+        mavrihkel_fix_point(rectangle[k] - 0.5f, rectangle[k + 1] + 0.25f, fresh(), ROOM);
+        for (size_t i = 0; i < 2; i++) points[k + i] = out[i];
+    }
+    expect("rectangle by fixes", mavrihkel_outline_totals(points, LENGTH(points), fresh(), ROOM), 0, rectangle_totals, MAVRIHKEL_TOTALS);
 }
 
-/* Whether these are the totals of the ground under the cells of runs. */
-static int are_totals_of(const int64_t *totals, const struct mavrihkel_run *runs, size_t count)
-{
-    int64_t wanted[MAVRIHKEL_TOTALS] = {0};
-    for (size_t k = 0; k < count; k++)
-        for (uint32_t n = 0; n < runs[k].length; n++) add_cell(wanted, (int64_t)runs[k].first + n, runs[k].row);
-    return memcmp(totals, wanted, sizeof wanted) == 0;
-}
+/* ---- cells */
 
 /* An accepted region: its totals, index 0, and the same totals cell by cell; its centre, or 27 with zeros where it has no cell. */
 static void expect_region(const char *what, const struct mavrihkel_run *runs, size_t count, const int64_t *values, const int64_t *centre)
@@ -226,7 +217,6 @@ static void check_masks(void)
 
 int main(void)
 {
-    const int64_t rectangle_totals[] = {80, 1200, 960, 14720, 21120, 8960};
     const int64_t square_totals[] = {2, 3, 3, 4, 6, 4};
     const int64_t square_mapped[] = {2, 12, 3, 50, 26, 4};
     const int64_t large[] = {0, 0, 0, INT64_C(98304000000000000), 0, INT64_C(98304000000000000)};
@@ -279,6 +269,7 @@ int main(void)
     expect("room for one", mavrihkel_outline_centroid(TOTALS(square_totals), fresh(), MAVRIHKEL_CENTRE - 1), MAVRIHKEL_SHORT_BUFFER, NULL, 0);
     expect("room for six", mavrihkel_region_totals(sound, 1, fresh(), MAVRIHKEL_REGION - 1), MAVRIHKEL_SHORT_BUFFER, NULL, 0);
     check_walks();
+    check_fixes();
     check_masks();
     return wrong;
 }

@@ -16,9 +16,7 @@
 static void print_totals(const uint64_t *words, size_t length)
 {
     int64_t out[MAVRIHKEL_TOTALS] = {0};
-    printf("%" PRIu32, mavrihkel_mask_totals(words, length, out, MAVRIHKEL_TOTALS));
-    for (size_t k = 0; k < MAVRIHKEL_TOTALS; k++) printf(" %" PRId64, out[k]);
-    putchar('\n');
+    print_answer(mavrihkel_mask_totals(words, length, out, MAVRIHKEL_TOTALS), out, MAVRIHKEL_TOTALS);
 }
 
 /* The runs of a mask and the list afterwards as a line. */

@@ -1,9 +1,10 @@
 /*
- * The proved calls on outlines, on two walks of one plot, on regions and on masks, for C and C++ on x86-64 Linux. Link target/staticlib/libexports.a, which `rt staticlib exports` writes.
+ * The proved calls on outlines, on two walks of one plot, on a receiver's fixes, on regions and on masks, for C and C++ on x86-64 Linux. Link target/staticlib/libexports.a, which
+ * `rt staticlib exports` writes.
  *
  * Each call answers a number: 0 where it is accepted, else that of document 01's or 02's refusal, named at each call, the first that applies in the order given. It writes its values to the
  * front of `out`, zeros with every refusal but for the index of a run, and nothing behind them. Where `out_length` is less than the number of its values, it writes nothing, to no list either, and
- * answers MAVRIHKEL_SHORT_BUFFER. That much is proved of the library, for every list, number and buffer; that these declarations fit it is tested (check.c, masks.c, runs.c, walks.c).
+ * answers MAVRIHKEL_SHORT_BUFFER. That much is proved of the library, for every list, number and buffer; that these declarations fit it is tested (check.c, fixes.c, masks.c, runs.c, walks.c).
  *
  * What a caller owes: a pointer is aligned and is not NULL, also where the length is 0, and that many entries lie there; the entries of `out`, and those of the list that mavrihkel_mask_runs
  * fills, may be written and overlap no other list. A call keeps no pointer, and no state between calls, so threads may call at once.
@@ -31,6 +32,7 @@ extern "C" {
 #define MAVRIHKEL_TOTALS 6
 #define MAVRIHKEL_CENTRE 2
 #define MAVRIHKEL_COMPARISON 10
+#define MAVRIHKEL_POINT 2
 #define MAVRIHKEL_REGION 7
 #define MAVRIHKEL_WRITTEN 1
 #define MAVRIHKEL_SHORT_BUFFER 100
@@ -52,6 +54,14 @@ uint32_t mavrihkel_outline_totals(const int32_t *points, size_t points_length, i
  */
 uint32_t mavrihkel_compare_walks(const int32_t *first, size_t first_length, const int32_t *second, size_t second_length,
                                  int64_t *out, size_t out_length);
+
+/*
+ * The point that a fix of a receiver becomes (document 02, CR 9): two values, x and y, each the exact value of the float, `east` or `north`, in decimetres, rounded to a whole number, halves up (towards
+ * east and north). So -2,000.5 becomes -2,000, 0.5 becomes 1, and -0.5 and minus zero become 0. The calls above take such points.
+ *   33  `east` or `north` is infinite or not a number
+ *   1   x or y is below -2,000 or above 2,000; 2,000.5 becomes 2,001, which is
+ */
+uint32_t mavrihkel_fix_point(float east, float north, int64_t *out, size_t out_length);
 
 /*
  * The six totals of the outline moved by u = a x + b y + e, v = g x + h y + f, from its six totals.

@@ -5,7 +5,7 @@
  * each of which is -1 before the call.
  * Ends with 1 if the input ends before the list of a case does.
  */
-#include <inttypes.h>
+#include <stdint.h>
 #include <stdio.h>
 #include <stdlib.h>
 
@@ -17,9 +17,7 @@ static void print_region(const struct mavrihkel_run *runs, size_t length)
 {
     int64_t out[MAVRIHKEL_REGION];
     for (size_t k = 0; k < MAVRIHKEL_REGION; k++) out[k] = -1;
-    printf("%" PRIu32, mavrihkel_region_totals(runs, length, out, MAVRIHKEL_REGION));
-    for (size_t k = 0; k < MAVRIHKEL_REGION; k++) printf(" %" PRId64, out[k]);
-    putchar('\n');
+    print_answer(mavrihkel_region_totals(runs, length, out, MAVRIHKEL_REGION), out, MAVRIHKEL_REGION);
 }
 
 int main(void)

@@ -5,7 +5,7 @@
  * of these two is the call's to read. The line is the number and the ten values, each of which is -1 before the call.
  * Ends with 1 if the input ends before the lists of a case do.
  */
-#include <inttypes.h>
+#include <stdint.h>
 #include <stdio.h>
 #include <stdlib.h>
 
@@ -17,9 +17,7 @@ static void print_comparison(const int32_t *first, size_t first_length, const in
 {
     int64_t out[MAVRIHKEL_COMPARISON];
     for (size_t k = 0; k < MAVRIHKEL_COMPARISON; k++) out[k] = -1;
-    printf("%" PRIu32, mavrihkel_compare_walks(first, first_length, second, second_length, out, MAVRIHKEL_COMPARISON));
-    for (size_t k = 0; k < MAVRIHKEL_COMPARISON; k++) printf(" %" PRId64, out[k]);
-    putchar('\n');
+    print_answer(mavrihkel_compare_walks(first, first_length, second, second_length, out, MAVRIHKEL_COMPARISON), out, MAVRIHKEL_COMPARISON);
 }
 
 int main(void)

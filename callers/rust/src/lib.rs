@@ -1,4 +1,4 @@
-//! Safe functions over the proved static library `exports`. The numbers of refusals, the units and the order of the totals are document 01's; masks and pairs of walks are document 02's.
+//! Safe functions over the proved static library `exports`. The numbers of refusals, the units and the order of the totals are document 01's; masks, pairs of walks and a receiver's fixes are document 02's.
 //!
 //! A cell is its ground: the cell in column x of row y is the square from (x, y) to (x + 1, y + 1). So cells answer the `Totals` that an outline does (document 02, CR 2), and `outline_centroid` gives their centre. The functions of before, `region_sums` and `mask_sums`, answered sums over cells as points; they are gone.
 //!
@@ -31,6 +31,13 @@ pub struct Comparison<'a> {
     pub second_to_first: i64,
     /// The caller's own list, not a copy: that of more points, or the first where both have as many.
     pub longer: &'a [i32],
+}
+
+/// A point, in whole decimetres east and north: x and y as a list of points has them.
+#[derive(Clone, Copy, Debug, PartialEq, Eq)]
+pub struct Point {
+    pub x: i32,
+    pub y: i32,
 }
 
 /// (x, y) goes to (a x + b y + e, g x + h y + f).
@@ -86,6 +93,12 @@ pub fn compare_walks_into(first: &[i32], second: &[i32], out: &mut [i64]) -> u32
             out.len(),
         )
     }
+}
+
+/// Writes the x and y of a fix's point to the first two entries, in the same way.
+pub fn fix_point_into(east: f32, north: f32, out: &mut [i64]) -> u32 {
+    // Sound, as above: every float is taken, whatever its bits.
+    unsafe { linked::mavrihkel_fix_point(east, north, out.as_mut_ptr(), out.len()) }
 }
 
 /// Writes the six mapped totals, in the same way.
@@ -200,6 +213,17 @@ pub fn compare_walks<'a>(first: &'a [i32], second: &'a [i32]) -> Result<Comparis
             second_to_first,
             longer: &[first, second][list as usize][..length as usize],
         }),
+    }
+}
+
+/// The point that a fix of a receiver becomes: the exact value of each float, in decimetres, rounded to a whole number, halves up (towards east and north); minus zero is 0. Refused with 33 where a float is infinite or not a number, else with 1 where x or y is outside -2,000 to 2,000: -2,000.5 becomes -2,000, and 2,000.5 is refused.
+pub fn fix_point(east: f32, north: f32) -> Result<Point, Refusal> {
+    let mut v = [0; 2];
+    let number = fix_point_into(east, north, &mut v);
+    let [x, y] = v.map(|z| z as i32);
+    match Refusal::of(number) {
+        Some(refusal) => Err(refusal),
+        None => Ok(Point { x, y }),
     }
 }
 

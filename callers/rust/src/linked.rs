@@ -18,6 +18,8 @@ extern "C" {
         out_length: usize,
     ) -> u32;
 
+    pub fn mavrihkel_fix_point(east: f32, north: f32, out: *mut i64, out_length: usize) -> u32;
+
     pub fn mavrihkel_map_totals(
         a: i32,
         b: i32,

@@ -2,7 +2,7 @@
 use std::error::Error;
 use std::fmt;
 
-/// Why a call on an outline, two walks, totals or a mask is refused; as a number, that of documents 01 and 02.
+/// Why a call on an outline, two walks, a fix, totals or a mask is refused; as a number, that of documents 01 and 02.
 #[derive(Clone, Copy, Debug, PartialEq, Eq)]
 #[repr(u32)]
 pub enum Refusal {
@@ -15,6 +15,7 @@ pub enum Refusal {
     CentreOutsideLimits = 11,
     NoArea = 27,
     WrongMaskLength = 31,
+    NotFinite = 33,
 }
 
 impl Refusal {
@@ -35,6 +36,7 @@ impl Refusal {
             11 => Some(Refusal::CentreOutsideLimits),
             27 => Some(Refusal::NoArea),
             31 => Some(Refusal::WrongMaskLength),
+            33 => Some(Refusal::NotFinite),
             _ => other_version(number),
         }
     }
@@ -60,6 +62,7 @@ impl Refusal {
             Refusal::WrongMaskLength => {
                 "a mask's number of words is no multiple of 16, or is over 16,384 (1,024 rows)"
             }
+            Refusal::NotFinite => "a float is infinite or not a number",
         }
     }
 }

@@ -1,8 +1,8 @@
 //! The whole buffer after each call, whatever its length.
 use crate::{affine_map, runs_of, totals};
 use mavrihkel::{
-    compare_walks_into, map_totals_into, mask_runs_into, mask_totals_into, outline_centroid_into,
-    outline_totals_into, region_totals_into, SHORT_BUFFER,
+    compare_walks_into, fix_point_into, map_totals_into, mask_runs_into, mask_totals_into,
+    outline_centroid_into, outline_totals_into, region_totals_into, SHORT_BUFFER,
 };
 
 const UNIT_SQUARE: [i32; 8] = [0, 0, 1, 0, 1, 1, 0, 1];
@@ -51,6 +51,15 @@ fn walks_call() {
     leaves_the_rest(call(&UNIT_SQUARE[1..], &UNIT_SQUARE), 2, &[0; 10]);
     leaves_the_rest(call(&UNIT_SQUARE, &[9999; 6]), 1, &[0; 10]);
     leaves_the_rest(call(&[9999; 6], &UNIT_SQUARE), 1, &[0; 10]);
+}
+
+#[test]
+fn fix_call() {
+    let call = |east, north| move |out: &mut [i64]| fix_point_into(east, north, out);
+    leaves_the_rest(call(0.5, -2000.5), 0, &[1, -2000]);
+    leaves_the_rest(call(-0.0, 2000.5), 1, &[0; 2]);
+    leaves_the_rest(call(f32::NAN, 2000.5), 33, &[0; 2]);
+    leaves_the_rest(call(-1.0, f32::NEG_INFINITY), 33, &[0; 2]);
 }
 
 #[test]

@@ -69,6 +69,22 @@ pub fn recorded_again(random: &mut Random, list: &[i32]) -> Vec<i32> {
         .collect()
 }
 
+/// A float by its bits: any, near 2,000.5 or a half, a whole number, within the limits and of any size, or infinite or not a number; above zero or below.
+pub fn float(random: &mut Random) -> f32 {
+    let any = random.next() as u32 >> 1;
+    let whole = random.between(0, 2003) as f32;
+    let near = random.between(-300, 300) as i32;
+    let size = match random.between(0, 20) {
+        0..=3 => any,
+        4..=7 => 2000.5_f32.to_bits().wrapping_add_signed(near),
+        8..=13 => (whole + 0.5).to_bits().wrapping_add_signed(near % 4),
+        14..=16 => whole.to_bits(),
+        17..=19 => any % 2000.0_f32.to_bits(),
+        _ => any | 0x7f80_0000,
+    };
+    f32::from_bits(size | random.one_of(&[0, 1 << 31]))
+}
+
 /// Runs that make up a region: in rows at random, in every row in turn, or in one row. `count` is at most 4,097, which is one too many.
 pub fn region(random: &mut Random, count: usize) -> Vec<[u32; 3]> {
     let spread = random.one_of(&[1, 20, 1024]);

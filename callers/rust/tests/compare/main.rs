@@ -1,6 +1,7 @@
-//! The static library beside an independent implementation of document 01 and of document 02's pairs of walks, cells and masks, on seeded inputs: long and short, valid and damaged.
+//! The static library beside an independent implementation of document 01 and of document 02's pairs of walks, fixes, cells and masks, on seeded inputs: long and short, valid and damaged.
 mod buffers;
 mod centres;
+mod fixes;
 mod inputs;
 mod lists;
 mod maps;

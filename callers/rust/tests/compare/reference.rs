@@ -1,4 +1,4 @@
-//! Document 01, and two walks, cells and masks as document 02 has them, in 128-bit integers, written from the papers: each outcome is a number, 0 if accepted, and its values, zeros with a refusal.
+//! Document 01, and two walks, fixes, cells and masks as document 02 has them, in 128-bit integers, written from the papers: each outcome is a number, 0 if accepted, and its values, zeros with a refusal.
 
 pub type Outcome<const N: usize> = (u32, [i128; N]);
 
@@ -96,6 +96,39 @@ pub fn walks_call(first: &[i32], second: &[i32]) -> Outcome<10> {
     values[8] = i128::from(second_is_longer);
     values[9] = 2 * longer.len() as i128;
     (0, values)
+}
+
+/// A float's exact value to a whole number, halves up, by its sign, exponent and digits; `None` where it is infinite or not a number.
+fn rounded(value: f32) -> Option<i128> {
+    let bits = value.to_bits();
+    let (exponent, digits) = (bits >> 23 & 0xff, i128::from(bits & 0x7f_ffff));
+    let size = match exponent {
+        0xff => return None,
+        0 => digits,
+        _ => digits + 0x80_0000,
+    };
+    let n = if bits >> 31 == 1 { -size } else { size };
+    // The value is n over 2 to the power k.
+    let k = 150 - exponent.max(1) as i32;
+    Some(match k {
+        // Less than a half in size.
+        26.. => 0,
+        // Halves of 2^k in n, one more for half up, and the half of that.
+        1..=25 => ((n << 1 >> k) + 1) >> 1,
+        // Not a fraction. All above 2^43 in size are as far outside the limits as those.
+        _ => n << (-k).min(20),
+    })
+}
+
+/// The point of a fix, by its two floats.
+pub fn fix_call(east: f32, north: f32) -> Outcome<2> {
+    let (Some(x), Some(y)) = (rounded(east), rounded(north)) else {
+        return refused(33);
+    };
+    if x.abs() > 2000 || y.abs() > 2000 {
+        return refused(1);
+    }
+    (0, [x, y])
 }
 
 /// `map` is a, b, g, h, e, f.

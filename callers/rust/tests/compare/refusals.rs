@@ -6,7 +6,7 @@ use std::error::Error;
 use std::fs;
 use std::path::Path;
 
-const OF_OUTLINES_AND_MASKS: [Refusal; 9] = [
+const BUT_OF_REGIONS: [Refusal; 10] = [
     Refusal::CoordinateOutsideLimits,
     Refusal::WrongLength,
     Refusal::MapOutsideLimits,
@@ -16,6 +16,7 @@ const OF_OUTLINES_AND_MASKS: [Refusal; 9] = [
     Refusal::CentreOutsideLimits,
     Refusal::NoArea,
     Refusal::WrongMaskLength,
+    Refusal::NotFinite,
 ];
 const OF_REGIONS: [RegionRefusal; 3] = [
     RegionRefusal::BadRun(4),
@@ -26,17 +27,15 @@ const OF_REGIONS: [RegionRefusal; 3] = [
 #[test]
 fn numbers() {
     assert_eq!(
-        OF_OUTLINES_AND_MASKS.map(Refusal::number),
-        [1, 2, 3, 4, 5, 8, 11, 27, 31]
+        BUT_OF_REGIONS.map(Refusal::number),
+        [1, 2, 3, 4, 5, 8, 11, 27, 31, 33]
     );
     assert_eq!(OF_REGIONS.map(RegionRefusal::number), [6, 7, 8]);
 }
 
 /// What every refusal says before its meaning, the meaning, and its number.
 fn texts() -> Vec<(String, String, u32)> {
-    let others = OF_OUTLINES_AND_MASKS
-        .iter()
-        .map(|r| (r.to_string(), r.number()));
+    let others = BUT_OF_REGIONS.iter().map(|r| (r.to_string(), r.number()));
     let regions = OF_REGIONS.iter().map(|r| (r.to_string(), r.number()));
     others
         .chain(regions)
@@ -59,6 +58,7 @@ fn texts_begin_with_the_number_and_the_index() {
         "refusal 11",
         "refusal 27",
         "refusal 31",
+        "refusal 33",
         "refusal 6 (run 4, counted from 0)",
         "refusal 7 (run 5, counted from 0)",
         "refusal 8",

@@ -1,8 +1,8 @@
-//! Document 01's plots worked by hand, and document 02's walks and regions, through the functions that give results.
+//! Document 01's plots worked by hand, and document 02's walks, fixes and regions, through the functions that give results.
 use crate::{affine_map, runs_of, totals};
 use mavrihkel::{
-    compare_walks, map_totals, mask_runs, mask_totals, outline_centroid, outline_totals,
-    region_totals, Centre, Comparison, Refusal, RegionRefusal,
+    compare_walks, fix_point, map_totals, mask_runs, mask_totals, outline_centroid, outline_totals,
+    region_totals, Centre, Comparison, Point, Refusal, RegionRefusal,
 };
 
 #[test]
@@ -62,6 +62,22 @@ fn walks() {
     assert_eq!(compare_walks(&far_off, odd), Err(coordinate));
     assert_eq!(compare_walks(&rectangle, odd), Err(length));
     assert_eq!(compare_walks(&rectangle, &far_off), Err(coordinate));
+}
+
+/// Halves go up, minus zero is 0, and the half is not added in floats: that would make 0.49999997 a one. 33 comes before 1.
+#[test]
+fn fixes() {
+    let at = |x, y| Ok(Point { x, y });
+    assert_eq!(fix_point(-2000.5, 0.5), at(-2000, 1));
+    assert_eq!(fix_point(-0.5, -1.5), at(0, -1));
+    assert_eq!(fix_point(-0.0, 0.49999997), at(0, 0));
+    assert_eq!(fix_point(1.5, -0.50000006), at(2, -1));
+    assert_eq!(fix_point(2000.4999, 2000.0), at(2000, 2000));
+    let (outside, not_finite) = (Refusal::CoordinateOutsideLimits, Refusal::NotFinite);
+    assert_eq!(fix_point(2000.5, 0.0), Err(outside));
+    assert_eq!(fix_point(0.0, -2000.5001), Err(outside));
+    assert_eq!(fix_point(f32::MAX, f32::INFINITY), Err(not_finite));
+    assert_eq!(fix_point(f32::NAN, 2000.5), Err(not_finite));
 }
 
 /// Totals and centre. Sums over cells as points would have the run's centre at (3, 3); totals of the box round the L, six cells.

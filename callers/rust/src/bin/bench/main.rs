@@ -1,8 +1,9 @@
-//! How long the library's calls on lists take beside the same work in Rust, as ratios taken in one run:
+//! How long the library's calls on lists and on fixes take beside the same work in Rust, as ratios taken in one run:
 //!
 //!     cargo run --release --bin bench
 //!
 //! Each time is the least of 25 rounds, in which the calls of a table take turns on the same input.
+mod fixes;
 mod outlines;
 mod regions;
 mod walks;
@@ -76,4 +77,6 @@ fn main() {
     walks::table();
     println!();
     regions::table();
+    println!();
+    fixes::table();
 }
