@@ -22,7 +22,8 @@ WALKS = (*(f"{which} {name}" for which in ("first", "second") for name in (*TOTA
          *(f"difference in {name}" for name in TOTALS), "first to second", "second to first")
 NAMES = (*TOTALS, *INTEGRANDS, *(name + unit for name, unit in METRES.items()), "area in ha", *CENTRAL,
          *(name + " in m⁴" for name in CENTRAL), *SUMS, *WALKS, "outline", "outlines", "points", "exact x", "exact y",
-         "centre x", "centre y", "c", "x", "y", "p", "q", "a", "b", "g", "h", "e", "f", "d", "k", "w", "i")
+         "centre x", "centre y", "c", "x", "y", "p", "q", "a", "b", "g", "h", "e", "f", "d", "k", "w", "i",
+         "east", "north")
 
 
 # Integrals

@@ -12,6 +12,7 @@ import page_cells
 import page_code
 import page_masks
 import page_moves
+import page_receiver
 import page_rings
 import page_walks
 import pictures
@@ -21,7 +22,8 @@ from differences import expect
 ROOT = Path(__file__).resolve().parent.parent
 SEED = 7
 MADE_UP = 100
-ALLOWED = re.compile(r"\b(A2|X6|Y6|XX12|XY24|YY12|[Dd]ocument 0[12]|document 000|CR [238]|[Rr]efusal (3|4|6|7|8|10|22|27|31|32))\b")
+ALLOWED = re.compile(r"\b(A2|X6|Y6|XX12|XY24|YY12|[Dd]ocument 0[12]|document 000|CR [2389]|[Rr]efusals? (1|3|4|6|7|8|10|22|23|27|28|31|32|33|34))\b")
+ROWS = page_walks.ROWS | page_receiver.ROWS
 # Of the tables that are recomputed in part: the cells of a row that are read as text.
 AS_TEXT = {"test": slice(1, None), "ground": slice(3, None), "regions": slice(1)}
 
@@ -29,7 +31,7 @@ AS_TEXT = {"test": slice(1, None), "ground": slice(3, None), "regions": slice(1)
 # Figures by name
 
 def made_up():
-    """Figures of made-up outlines, rings, edges, maps, regions, bits and pairs of walks, by the second program and by exact integrals."""
+    """Figures of made-up outlines, rings, edges, maps, regions, bits, pairs of walks and fixes, by the second program and by exact integrals."""
     chance = random.Random(SEED)
     cases = []
     for _ in range(MADE_UP):
@@ -41,7 +43,7 @@ def made_up():
         cases.append({"a": a, "b": b, "g": g, "h": h, "d": exact.integral(exact.INTEGRANDS["area"], [[(0, 0), (a, g), (a + b, g + h), (b, h)]])})
         row, first, length = chance.randint(0, 9), chance.randint(0, 9), chance.randint(1, 9)
         cases.append(page_cells.region([(row, first, length), (row + 1, first + 2, length)]))
-    return cases + page_masks.made_up_bits(chance, MADE_UP) + page_walks.made_up_pairs(chance, MADE_UP)
+    return cases + page_masks.made_up_bits(chance, MADE_UP) + page_walks.made_up_pairs(chance, MADE_UP) + page_receiver.made_up_fixes(chance, MADE_UP)
 
 
 # A page
@@ -52,11 +54,9 @@ class Page:
     def __init__(self, path, plots):
         self.path, self.plots = path, plots
         self.lines = [*path.read_text().splitlines(), ""]
-        self.blocks = {}
-        self.examples = {}
+        self.blocks, self.examples = {}, {}
         self.general = made_up()
-        self.terms = {}
-        self.mask = None
+        self.terms, self.mask = {}, None
         self.read_blocks()
 
     def at(self, number):
@@ -144,7 +144,7 @@ class Page:
                 table.append([cell.strip() for cell in line.strip("|").split("|")])
                 if not self.lines[number + 1].startswith("|"):
                     self.table(number, table[0], table[1:], now)
-                if table[0] in ("edges", "loops", "trial", "answers", "cells", "moves", "mended", *page_walks.ROWS):
+                if table[0] in ("edges", "loops", "trial", "answers", "cells", "moves", "mended", *ROWS):
                     continue
                 if table[0] in AS_TEXT:
                     line = "|".join(table[-1][AS_TEXT[table[0]]])
@@ -193,9 +193,9 @@ class Page:
 
     def table(self, number, name, rows, now):
         """By its name: its own check, or the rows that it has to have."""
-        if name not in page_walks.ROWS:
+        if name not in ROWS:
             return getattr(self, "table_" + name)(number, rows, now)
-        expected = page_walks.ROWS[name](rows, now)
+        expected = ROWS[name](rows, now)
         return expect(rows[2:] == expected, self.at(number), f"the rows are {expected}")
 
     def table_terms(self, number, rows, _):

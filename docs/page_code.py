@@ -9,7 +9,7 @@ from worked import numbers_of
 
 ROOT = Path(__file__).resolve().parent.parent
 # By the language of a block, the sources that have the names in it; Python is run.
-SOURCES = {"c": ["callers/c/mavrihkel.h", "callers/c/walks.c"],
+SOURCES = {"c": ["callers/c/mavrihkel.h", "callers/c/walks.c", "callers/c/cases.h"],
            "rust": ["callers/rust/src/lib.rs"],
            "rattle": [f"crates/{crate}/src/lib.rt" for crate in ("lent_comparison", "comparison", "two_walks")],
            "python": ["second/walkers.py"]}
