@@ -65,7 +65,7 @@ corners-inside c g = ((omega (arith, g .column), omega (arith, g .row)), ((omega
 
 pub one-cell : OneCell
 unfolding wrongLength points numbers listCall
-one-cell c g = rw (none-outside (corners c) (corners-inside c g)) (ap accepted (square-totals (pos (c .x)) (pos (c .y))))
+one-cell c g = rw (none-outside 2000 (corners c) (corners-inside c g)) (ap accepted (square-totals (pos (c .x)) (pos (c .y))))
 
 pub cell-by-cell : CellByCell
 unfolding groundOf sumsOver squaresAdded

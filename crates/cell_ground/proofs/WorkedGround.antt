@@ -5,7 +5,7 @@ use mathlib.Core.List.{List, [], _∷_}
 use lib.IntN.{ℤ, pos}
 use Rattle.outline.specs.declared.Totals.{Totals}
 use Rattle.outline.specs.EdgeSums.{openEdges, edges, sumOver, over, exceed}
-use Rattle.outline.specs.ListCall.{points, numbers, outside, anyOutside, wrongLength, listCall}
+use Rattle.outline.specs.ListCall.{points, numbers, beyond, anyBeyond, wrongLength, listCall}
 use Rattle.integers.specs.Rounding.{roundsTo, firstRounded, roundHalfUp}
 use Rattle.centroid.specs.Centroid.{signedBy, outlineCentroidCall}
 use Rattle.cell_ground.specs.CellSums.{Cell, sumsOver}
@@ -41,7 +41,7 @@ record Worked : Type 0 where
   of-one-row : sumsOver shortRun ≡ rowSums (pos 3) (pos 3) (pos 9) (pos 29)
 
 worked : Worked
-unfolding openEdges edges sumOver over points numbers outside anyOutside wrongLength listCall sumsOver groundOf squaresAdded
+unfolding openEdges edges sumOver over points numbers beyond anyBeyond wrongLength listCall sumsOver groundOf squaresAdded
 worked =
     record {
       none = refl;

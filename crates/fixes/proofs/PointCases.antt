@@ -3,7 +3,7 @@ use mathlib.Core.Path.{_≡_, refl}
 use mathlib.Core.Bool.{Bool, true, false, _||_, cond}
 use lib.IntN.{ℤ}
 use Rattle.outline.specs.EdgeSums.{over}
-use Rattle.outline.specs.ListCall.{outside}
+use Rattle.outline.specs.ListCall.{beyond}
 use Rattle.outline.specs.FixCall.{noPoint, fixNotFinite, fixPointCall}
 use Rattle.receiver.specs.declared.Fix.{Fix}
 use Rattle.receiver.specs.Floats.{notFinite, rounded}
@@ -26,5 +26,5 @@ by-tests false false false true x y = refl
 by-tests false false false false x y = refl
 
 pub point-is : (f : Fix) → pointOf (coordinateOf (f .east)) (coordinateOf (f .north)) ≡ fixPointCall f
-unfolding coordinateAt coordinateOf fixNotFinite fixPointCall outside
+unfolding coordinateAt coordinateOf fixNotFinite fixPointCall beyond
 point-is f = by-tests (notFinite (f .east)) (over 2000 (rounded (f .east))) (notFinite (f .north)) (over 2000 (rounded (f .north))) (rounded (f .east)) (rounded (f .north))

@@ -43,11 +43,18 @@ pub fn size_exceeds(z: i64, bound: u64) -> bool
     b < z
 }
 
+// Whether a coordinate is greater in size than the limit.
+pub fn coordinate_beyond(z: i32, limit: u64) -> bool
+    ensures { λ r. ⌜ r ≡ over limit z ⌝ }
+{
+    size_exceeds(z as i64, limit)
+}
+
 // Whether a coordinate is outside -2,000 to 2,000.
 pub fn coordinate_outside(z: i32) -> bool
     ensures { λ r. ⌜ r ≡ over 2000 z ⌝ }
 {
-    size_exceeds(z as i64, 2000)
+    coordinate_beyond(z, 2000)
 }
 
 // Refusal 1: whether one of the two coordinates is outside.

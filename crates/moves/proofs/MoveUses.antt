@@ -8,7 +8,7 @@ use Rattle.outline.specs.declared.Position.{Position}
 use Rattle.outline.specs.declared.Totals.{Totals}
 use Rattle.outline.specs.declared.AffineMap.{AffineMap}
 use Rattle.outline.specs.EdgeSums.{openEdges, edges, sumOver, outlineTotals, over, exceed, outlineBounds}
-use Rattle.outline.specs.ListCall.{accepted, refused, points, numbers, outside, anyOutside, wrongLength, listCall}
+use Rattle.outline.specs.ListCall.{accepted, refused, points, numbers, beyond, anyBeyond, anyOutside, wrongLength, listCall}
 use Rattle.outline.specs.MapCall.{movePoint, moved, disallowed, mapped, mapCall}
 use Rattle.centroid.proofs.WorkedCentres.{totals}
 use Rattle.moves.specs.Composition.{composed}
@@ -89,11 +89,11 @@ abbrev farWest : AffineMap
 farWest = shift (minus 2000) (pos 0)
 
 rectangle-taken : listCall rectangleNumbers ≡ accepted rectangle
-unfolding openEdges edges sumOver over points outside anyOutside wrongLength listCall
+unfolding openEdges edges sumOver over points beyond anyBeyond wrongLength listCall
 rectangle-taken = refl
 
 there-and-back : (anyOutside (moved farEast (points rectangleNumbers)) ≡ true) × (anyOutside (moved farWest (moved farEast (points rectangleNumbers))) ≡ false) × (disallowed (composed farEast farWest) ≡ false)
-unfolding over points outside anyOutside disallowed
+unfolding over points beyond anyBeyond disallowed
 there-and-back = (refl, refl, refl)
 
 out-and-in : mapCall (composed farEast farWest) rectangle ≡ listCall (numbers (moved farWest (moved farEast (points rectangleNumbers))))
@@ -126,7 +126,7 @@ record Sheared : Type 0 where
   not-allowed : disallowed (composed stretch shear) ≡ true
 
 triangle-sheared : Sheared
-unfolding openEdges edges sumOver over exceed points outside anyOutside wrongLength listCall disallowed mapCall
+unfolding openEdges edges sumOver over exceed points beyond anyBeyond wrongLength listCall disallowed mapCall
 triangle-sheared = record { taken = refl; stretched-first = refl; then-sheared = refl; stays = refl; not-allowed = refl }
 
 sheared-in-turn : listCall (numbers (moved shear (moved stretch (points triangle)))) ≡ accepted sheared

@@ -6,7 +6,7 @@ use Prim.Native.Nat.{_^_}
 use lib.IntN.{ℤ, pos, _+ℤ_, _*ℤ_}
 use Rattle.outline.specs.declared.Totals.{Totals}
 use Rattle.outline.specs.EdgeSums.{openEdges, edges, sumOver, over, exceed}
-use Rattle.outline.specs.ListCall.{accepted, points, numbers, outside, anyOutside, wrongLength, listCall}
+use Rattle.outline.specs.ListCall.{accepted, points, numbers, beyond, anyBeyond, wrongLength, listCall}
 use Rattle.outline.specs.MapCall.{moved, disallowed, mapped, mapCall}
 use Rattle.centroid.specs.Centroid.{CentroidOutcome, refused as noCentre, outlineCentroidCall}
 use Rattle.centroid.proofs.WorkedCentres.{totals}
@@ -81,11 +81,11 @@ abbrev easternTotals : Totals
 easternTotals = totals (pos 2) (pos 11_997) (pos 3) (pos 47_976_004) (pos 23_994) (pos 4)
 
 western-taken : listCall western ≡ accepted westernTotals
-unfolding openEdges edges sumOver over points outside anyOutside wrongLength listCall
+unfolding openEdges edges sumOver over points beyond anyBeyond wrongLength listCall
 western-taken = refl
 
 eastern-taken : listCall (numbers (moved (shift (pos 3999) (pos 0)) (points western))) ≡ accepted easternTotals
-unfolding openEdges edges sumOver over points numbers outside anyOutside wrongLength listCall
+unfolding openEdges edges sumOver over points numbers beyond anyBeyond wrongLength listCall
 eastern-taken = refl
 
 too-large : disallowed (shift (pos 3999) (pos 0)) ≡ true

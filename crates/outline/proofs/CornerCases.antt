@@ -10,7 +10,7 @@ use Rattle.receiver.specs.Floats.{notFinite, belowZero, plusZero}
 use Rattle.outline.specs.declared.Kind.the-variants.{Island, Hole}
 use Rattle.outline.specs.declared.Walk.{Walk}
 use Rattle.outline.specs.EdgeSums.{zeros, over, exceed}
-use Rattle.outline.specs.ListCall.{points, outside, anyOutside, wrongLength, listCall}
+use Rattle.outline.specs.ListCall.{points, beyond, anyBeyond, wrongLength, listCall}
 use Rattle.outline.specs.WalkCalls.{origin, openWalk, opened, closed, sheetOf, newSheet, edgeTotals, extended, hasSign, turned, zeroArea, impossibleWalk, impossibleSheet, refusedWalk, refusedEnd, beginCall, pointCall, endCall, abandonCall}
 use Rattle.outline.specs.EntryCalls.{fixCall, outageCall, entryCall}
 use Rattle.outline.proofs.WorkedInputs.{at, area, openOf, leftover}
@@ -48,7 +48,7 @@ abbrev bad : ℤ
 bad = negsuc 2_147_483_647
 
 lists : map (λ zs. listCall zs .number) ([] ∷ (bad ∷ bad ∷ bad ∷ bad ∷ bad ∷ []) ∷ (bad ∷ pos 0 ∷ pos 0 ∷ pos 0 ∷ pos 1 ∷ pos 1 ∷ []) ∷ (pos 2000 ∷ pos 0 ∷ pos 0 ∷ pos 2000 ∷ pos 1 ∷ pos 1 ∷ []) ∷ []) ≡ 2 ∷ 2 ∷ 1 ∷ 0 ∷ []
-unfolding points over outside anyOutside wrongLength listCall
+unfolding points over beyond anyBeyond wrongLength listCall
 lists = refl
 
 -- ---- a walk marked closed with other fields, a hole among them: 28 does not look at it, and only begin takes it
@@ -62,7 +62,7 @@ record ClosedWalk : Type 0 where
   begin : beginCall leftover Island ≡ record { number = 0; walk = opened Island }
 
 closed-walk : ClosedWalk
-unfolding over exceed outside notFinite belowZero lt impossibleWalk impossibleSheet beginCall pointCall endCall abandonCall fixCall outageCall entryCall
+unfolding over exceed beyond notFinite belowZero lt impossibleWalk impossibleSheet beginCall pointCall endCall abandonCall fixCall outageCall entryCall
 closed-walk = record { point = refl; end = refl; abandon = refl; fix = refl; outage = refl; begin = refl }
 
 -- ---- the sheet's half of 28 comes before 21; a sheet's count and totals need not agree
@@ -72,7 +72,7 @@ record Sheets : Type 0 where
   taken : impossibleSheet (sheetOf 0 (area 5)) ≡ false
 
 sheets : Sheets
-unfolding over exceed outside notFinite belowZero lt impossibleWalk impossibleSheet endCall
+unfolding over exceed beyond notFinite belowZero lt impossibleWalk impossibleSheet endCall
 sheets = record { too-many = refl; taken = refl }
 
 -- ---- an open walk of no points: its first and last are not looked at, its totals are
@@ -88,7 +88,7 @@ record NoPoints : Type 0 where
   area-without-points : pointCall (openOf 0 (area 1)) origin .number ≡ 28
 
 no-points : NoPoints
-unfolding over exceed outside extended notFinite belowZero lt impossibleWalk impossibleSheet beginCall pointCall endCall abandonCall
+unfolding over exceed beyond extended notFinite belowZero lt impossibleWalk impossibleSheet beginCall pointCall endCall abandonCall
 no-points = record { point = refl; begin = refl; end = refl; abandon = refl; area-without-points = refl }
 
 -- ---- what an accepted call leaves of a walk handed in, its last point (9,9) not its first
@@ -106,7 +106,7 @@ record Left : Type 0 where
   abandon : abandonCall (handed 3) ≡ record { number = 0; walk = closed }
 
 left : Left
-unfolding over exceed outside extended hasSign turned zeroArea notFinite belowZero lt impossibleWalk impossibleSheet pointCall endCall abandonCall
+unfolding over exceed beyond extended hasSign turned zeroArea notFinite belowZero lt impossibleWalk impossibleSheet pointCall endCall abandonCall
 left = record { point = refl; end = refl; hole-end = refl; abandon = refl }
 
 -- ---- walks handed in that no calls have made
@@ -123,5 +123,5 @@ record HandedIn : Type 0 where
   too-long : abandonCall (openOf 1025 zeros) ≡ refusedWalk 28 (openOf 1025 zeros)
 
 handed-in : HandedIn
-unfolding over exceed outside extended hasSign turned zeroArea notFinite belowZero lt impossibleWalk impossibleSheet pointCall endCall abandonCall
+unfolding over exceed beyond extended hasSign turned zeroArea notFinite belowZero lt impossibleWalk impossibleSheet pointCall endCall abandonCall
 handed-in = record { one-point = refl; above-the-share = refl; three-points = refl; one-more = refl; large = refl; too-long = refl }

@@ -11,9 +11,9 @@ use Rattle.integers.proofs.Ring.{ring, quote}
 use Rattle.outline.specs.declared.Position.{Position}
 use Rattle.outline.specs.EdgeSums.{Term, edges, sumOver}
 use Rattle.outline.specs.Pieces.{Piece, Cut, lower, higher, kept, others}
+use Rattle.outline.specs.OddTerms.{Odd}
 use Rattle.outline.specs.WalkCalls.{origin}
 use Rattle.outline.proofs.EdgeSumLaws.{path, around, one-edge, around-two}
-use Rattle.outline.proofs.OddTerms.{Odd}
 use Rattle.outline.proofs.StartLaw.{rotation}
 
 -- A piece and the two parts of it, by the cut points a and b and the points before, between and after them.

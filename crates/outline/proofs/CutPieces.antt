@@ -10,7 +10,7 @@ use lib.Seq.{lt-length-set, getD-set-same, getD-set-other, getD-at}
 use lib.IntN.{pos}
 use Rattle.outline.specs.declared.Position.{Position}
 use Rattle.outline.specs.EdgeSums.{openEdges, edges, sumOver, over}
-use Rattle.outline.specs.ListCall.{points, numbers, outside, anyOutside, wrongLength, listCall}
+use Rattle.outline.specs.ListCall.{points, numbers, beyond, anyBeyond, wrongLength, listCall}
 use Rattle.outline.specs.Pieces.{Piece, Cut, neighbours, canCut, kept, others, cutOnce, cutAll, piecesOf, totalsOf}
 use Rattle.outline.proofs.CutTest.{made}
 
@@ -51,5 +51,5 @@ abbrev rectangleParts : List Piece
 rectangleParts = piecesOf rectangle (record { piece = 0; one = 3; other = 0 } ∷ record { piece = 1; one = 0; other = 2 } ∷ record { piece = 0; one = 2; other = 0 } ∷ [])
 
 pub rectangle-cut : (map (λ p. totalsOf p .a2) rectangleParts ≡ pos 40 ∷ pos 40 ∷ []) × (map (λ p. totalsOf p .x6) rectangleParts ≡ pos 800 ∷ pos 400 ∷ [])
-unfolding openEdges edges sumOver over points numbers outside anyOutside wrongLength listCall neighbours canCut cutOnce cutAll
+unfolding openEdges edges sumOver over points numbers beyond anyBeyond wrongLength listCall neighbours canCut cutOnce cutAll
 rectangle-cut = (refl, refl)

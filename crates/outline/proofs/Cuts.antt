@@ -12,31 +12,27 @@ use Rattle.integers.proofs.Ring.{ring, quote, given}
 use Rattle.outline.specs.declared.Position.{Position}
 use Rattle.outline.specs.EdgeSums.{Term}
 use Rattle.outline.specs.Pieces.{Piece, Cut, lower, higher, canCut, kept, others, cutOnce, cutAll}
+use Rattle.outline.specs.OddTerms.{Odd, sumAround}
 use Rattle.outline.proofs.Every.{All, all-append, all-front, all-back, all-take, all-drop, all-set, all-at}
 use Rattle.outline.proofs.EdgeSumLaws.{around}
 use Rattle.outline.proofs.Limits.{OutlineIn}
-use Rattle.outline.proofs.OddTerms.{Odd}
 use Rattle.outline.proofs.CutTest.{Made, made}
 use Rattle.outline.proofs.CutLaw.{parts, cut-law}
 
 -- ---- the sum over the pieces
 
 module _ (t : Term) where
-  abbrev pub sumAround : List Piece → ℤ
-  sumAround [] = pos 0
-  sumAround (p ∷ pieces) = around t p +ℤ sumAround pieces
-
-  sum-set : (pieces : List Piece) (k : ℕ) (q : Piece) → k < length pieces → sumAround (set pieces k q) +ℤ around t (getD pieces k []) ≡ sumAround pieces +ℤ around t q
+  sum-set : (pieces : List Piece) (k : ℕ) (q : Piece) → k < length pieces → sumAround t (set pieces k q) +ℤ around t (getD pieces k []) ≡ sumAround t pieces +ℤ around t q
   sum-set [] k q h = absurd (not-suc-le-zero h)
-  sum-set (p ∷ pieces) zero q h = ring (around t q ∷ around t p ∷ sumAround pieces ∷ []) (search quote depth 12) (search quote depth 12) tt
+  sum-set (p ∷ pieces) zero q h = ring (around t q ∷ around t p ∷ sumAround t pieces ∷ []) (search quote depth 12) (search quote depth 12) tt
   sum-set (p ∷ pieces) (suc k) q h =
-      +ℤ-assoc (around t p) (sumAround (set pieces k q)) (around t (getD pieces k []))
+      +ℤ-assoc (around t p) (sumAround t (set pieces k q)) (around t (getD pieces k []))
       ∙ ap (λ z. around t p +ℤ z) (sum-set pieces k q (le-of-suc-le-suc h))
-      ∙ sym (+ℤ-assoc (around t p) (sumAround pieces) (around t q))
+      ∙ sym (+ℤ-assoc (around t p) (sumAround t pieces) (around t q))
 
-  sum-append : (pieces : List Piece) (q : Piece) → sumAround (pieces ++ q ∷ []) ≡ sumAround pieces +ℤ around t q
+  sum-append : (pieces : List Piece) (q : Piece) → sumAround t (pieces ++ q ∷ []) ≡ sumAround t pieces +ℤ around t q
   sum-append [] q = +ℤ-idr (around t q) ∙ sym (+ℤ-idl (around t q))
-  sum-append (p ∷ pieces) q = ap (λ z. around t p +ℤ z) (sum-append pieces q) ∙ sym (+ℤ-assoc (around t p) (sumAround pieces) (around t q))
+  sum-append (p ∷ pieces) q = ap (λ z. around t p +ℤ z) (sum-append pieces q) ∙ sym (+ℤ-assoc (around t p) (sumAround t pieces) (around t q))
 
 exchange : (s s′ p k o : ℤ) → s′ +ℤ p ≡ s +ℤ k → k +ℤ o ≡ p → s′ +ℤ o ≡ s
 exchange s s′ p k o e f = given {u = s′ +ℤ p} {v = s +ℤ k} (pos 1) e (rw (← f) (ring (s ∷ s′ ∷ k ∷ o ∷ []) (search quote depth 12) (search quote depth 12) tt))

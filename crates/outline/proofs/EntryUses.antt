@@ -22,7 +22,7 @@ use Rattle.outline.specs.declared.Totals.{Totals}
 use Rattle.outline.specs.declared.Walk.{Walk}
 use Rattle.outline.specs.declared.Sheet.{Sheet}
 use Rattle.outline.specs.EdgeSums.{over, exceed, zeros, negated}
-use Rattle.outline.specs.ListCall.{accepted, points, numbers, outside, listCall}
+use Rattle.outline.specs.ListCall.{accepted, points, numbers, beyond, outside, listCall}
 use Rattle.outline.specs.FixCall.{fixPoint, fixNotFinite}
 use Rattle.outline.specs.WalkCalls.{closed, sheetOf, newSheet, extended, closedTotals, hasSign, turned, zeroArea, impossibleWalk, impossibleSheet, refusedWalk, beginCall, pointCall, endCall, abandonCall}
 use Rattle.outline.specs.EntryCalls.{longer, fixCall, outageCall, entryCall}
@@ -61,11 +61,11 @@ recorded =
 
 -- The outages accepted since the last accepted begin: 1, 3 and 2 seconds.
 recorded-ring : reached recorded .ring ≡ record { kind = Hole; points = points pentagon; outages = float 0x3F80_0000 ∷ float 0x4040_0000 ∷ float 0x4000_0000 ∷ [] }
-unfolding trailingZeros odd ofFields ofBits lt roundsTo firstRounded roundHalfUp notFinite rounded belowZero points over exceed outside fixNotFinite extended hasSign turned zeroArea impossibleWalk impossibleSheet beginCall pointCall endCall abandonCall longer fixCall outageCall entryCall numberOf walkAfter ringWith next after
+unfolding trailingZeros odd ofFields ofBits lt roundsTo firstRounded roundHalfUp notFinite rounded belowZero points over exceed beyond fixNotFinite extended hasSign turned zeroArea impossibleWalk impossibleSheet beginCall pointCall endCall abandonCall longer fixCall outageCall entryCall numberOf walkAfter ringWith next after
 recorded-ring = refl
 
 recorded-closable : Closable (reached recorded .walk)
-unfolding trailingZeros odd ofFields ofBits lt roundsTo firstRounded roundHalfUp notFinite rounded belowZero over exceed outside fixNotFinite extended hasSign turned zeroArea impossibleWalk impossibleSheet beginCall pointCall endCall abandonCall longer fixCall outageCall entryCall numberOf walkAfter ringWith next after
+unfolding trailingZeros odd ofFields ofBits lt roundsTo firstRounded roundHalfUp notFinite rounded belowZero over exceed beyond fixNotFinite extended hasSign turned zeroArea impossibleWalk impossibleSheet beginCall pointCall endCall abandonCall longer fixCall outageCall entryCall numberOf walkAfter ringWith next after
 recorded-closable = record { is-open = refl; enough = omega arith }
 
 -- Its totals with the closing edge are the pentagon's, and no entry on it answers 28.
@@ -86,7 +86,7 @@ recorded-greatest = longest-outage recorded (recorded-closable .is-open)
 
 -- 3 seconds, as no other float of 32 bits is the greatest.
 three-seconds : reached recorded .walk .outage ≡ float 0x4040_0000
-unfolding trailingZeros odd ofFields ofBits lt roundsTo firstRounded roundHalfUp notFinite rounded belowZero over exceed outside fixNotFinite extended hasSign turned zeroArea impossibleWalk impossibleSheet beginCall pointCall endCall abandonCall longer fixCall outageCall entryCall numberOf walkAfter ringWith next after
+unfolding trailingZeros odd ofFields ofBits lt roundsTo firstRounded roundHalfUp notFinite rounded belowZero over exceed beyond fixNotFinite extended hasSign turned zeroArea impossibleWalk impossibleSheet beginCall pointCall endCall abandonCall longer fixCall outageCall entryCall numberOf walkAfter ringWith next after
 three-seconds = refl
 
 any-greatest : (k : Walking) → reached k .walk .is_open ≡ true → (x : Float) → T (fits binary32 x) → T (fits binary32 (reached k .walk .outage)) → Greatest plusZero (reached k .ring .outages) x → x ≡ reached k .walk .outage

@@ -8,7 +8,7 @@ use native.Mathlib.Omega.{arith}
 use lib.IntN.{ℤ, pos, _+ℤ_, +ℤ-idl, +ℤ-idr, +ℤ-assoc}
 use lib.ListN.{length, getD, take}
 use Rattle.outline.specs.declared.Position.{Position}
-use Rattle.outline.specs.EdgeSums.{Term, six, openEdges, edges, sumOver, totalsOver, outlineTotals, plus}
+use Rattle.outline.specs.EdgeSums.{Term, six, openEdges, edges, sumOver, totalsOver, plus}
 use Rattle.outline.specs.ListCall.{points, numbers}
 use Rattle.outline.specs.WalkCalls.{edgeTotals}
 use Rattle.outline.proofs.EdgeSumLaws.{path, around}
@@ -40,15 +40,9 @@ around-closing t (a ∷ ps) d h = path-snoc t a ps a d ∙ ap (λ k. path t (a �
     last : length ps ≡ suc (length ps) - 1
     last = omega arith
 
--- The same of all six totals.
-pub totals-next : (ps : List Position) (k : ℕ) (d : Position) → suc k < length ps → totalsOver (openEdges (take (suc (suc k)) ps)) ≡ plus (totalsOver (openEdges (take (suc k) ps))) (edgeTotals (getD ps k d) (getD ps (suc k) d))
-totals-next ps k d h = λ i. six (λ t. path-next t ps k d h i)
-
+-- A point after the last one, of all six totals.
 pub totals-snoc : (a : Position) (ps : List Position) (p d : Position) → totalsOver (openEdges (a ∷ ps ++ p ∷ [])) ≡ plus (totalsOver (openEdges (a ∷ ps))) (edgeTotals (getD (a ∷ ps) (length ps) d) p)
 totals-snoc a ps p d = λ i. six (λ t. path-snoc t a ps p d i)
-
-pub totals-closing : (ps : List Position) (d : Position) → 0 < length ps → outlineTotals ps ≡ plus (totalsOver (openEdges ps)) (edgeTotals (getD ps (length ps - 1) d) (getD ps 0 d))
-totals-closing ps d h = λ i. six (λ t. around-closing t ps d h i)
 
 -- ---- points and numbers
 

@@ -3,6 +3,7 @@ pub mod TotalsLaws
 pub mod EdgeSumLaws
 pub mod OtherTermsLaw
 pub mod IndexLaws
+pub mod EdgeSteps
 pub mod Limits
 pub mod PossibleWalks
 pub mod TurnedTotals
@@ -15,6 +16,8 @@ pub mod CutTest
 pub mod CutPieces
 pub mod CutLaw
 pub mod Cuts
+pub mod OddTermAddsUp
+pub mod PlacedPieces
 pub mod PiecePoints
 pub mod MapLaw
 pub mod PiecesAddUp

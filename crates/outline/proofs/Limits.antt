@@ -19,7 +19,7 @@ use Rattle.outline.specs.declared.Position.{Position}
 use Rattle.outline.specs.declared.Totals.{Totals}
 use Rattle.outline.specs.declared.Sizes.{Sizes}
 use Rattle.outline.specs.EdgeSums.{Term, a2, x6, y6, xx12, xy24, yy12, six, openEdges, edges, sumOver, totalsOver, outlineTotals, over, exceed, outlineBounds}
-use Rattle.outline.specs.ListCall.{accepted, refused, points, numbers, outside, anyOutside, wrongLength, listCall}
+use Rattle.outline.specs.ListCall.{accepted, refused, points, numbers, beyond, outside, anyBeyond, anyOutside, wrongLength, listCall}
 use Rattle.outline.specs.MapCall.{totalLimits}
 use Rattle.outline.specs.WalkCalls.{origin, share}
 use Rattle.outline.specs.private.Fit.{Fit}
@@ -30,9 +30,13 @@ use Rattle.outline.proofs.IndexLaws.{points-numbers, length-numbers}
 
 -- ---- the limits as orders
 
--- Both coordinates are from -2,000 to 2,000.
+-- Both coordinates are from -n to n.
+abbrev pub InsideOf : ℕ → Position → Type 0
+InsideOf n p = (natAbs (p .x) ≤ n) × (natAbs (p .y) ≤ n)
+
+-- Both are from -2,000 to 2,000.
 abbrev pub Inside : Position → Type 0
-Inside p = (natAbs (p .x) ≤ 2000) × (natAbs (p .y) ≤ 2000)
+Inside p = InsideOf 2000 p
 
 pub not-over : (n : ℕ) (z : ℤ) → natAbs z ≤ n → over n z ≡ false
 unfolding over
@@ -50,27 +54,27 @@ tested n z h = sized z (over-not n z h)
 pub never-over : (l : List Sized) (K : ℕ) {z : ℤ} (k : Code (sizedNumbers l) z) → T (both (leb (size (bounds l) k) K) (steps (bounds l) k)) → over K z ≡ false
 never-over l K {z} k t = not-over K z (at-most l k t)
 
-pub outside-not : (p : Position) → outside p ≡ false → Inside p
-unfolding outside
-outside-not p e = (over-not 2000 (p .x) (or-left (over 2000 (p .x)) (over 2000 (p .y)) e), over-not 2000 (p .y) (or-right (over 2000 (p .x)) (over 2000 (p .y)) e))
+pub outside-not : {n : ℕ} (p : Position) → beyond n p ≡ false → InsideOf n p
+unfolding beyond
+outside-not {n} p e = (over-not n (p .x) (or-left (over n (p .x)) (over n (p .y)) e), over-not n (p .y) (or-right (over n (p .x)) (over n (p .y)) e))
 
-pub not-outside : (p : Position) → Inside p → outside p ≡ false
-unfolding outside
-not-outside p h = neither (not-over 2000 (p .x) (h .0)) (not-over 2000 (p .y) (h .1))
+pub not-outside : {n : ℕ} (p : Position) → InsideOf n p → beyond n p ≡ false
+unfolding beyond
+not-outside {n} p h = neither (not-over n (p .x) (h .0)) (not-over n (p .y) (h .1))
 
-pub all-inside : (ps : List Position) → anyOutside ps ≡ false → All Inside ps
-unfolding anyOutside
-all-inside [] e = tt
-all-inside (p ∷ ps) e = (outside-not p (or-left (outside p) (anyOutside ps) e), all-inside ps (or-right (outside p) (anyOutside ps) e))
+pub all-inside : (n : ℕ) (ps : List Position) → anyBeyond n ps ≡ false → All (InsideOf n) ps
+unfolding anyBeyond
+all-inside n [] e = tt
+all-inside n (p ∷ ps) e = (outside-not p (or-left (beyond n p) (anyBeyond n ps) e), all-inside n ps (or-right (beyond n p) (anyBeyond n ps) e))
 
-pub none-outside : (ps : List Position) → All Inside ps → anyOutside ps ≡ false
-unfolding anyOutside
-none-outside [] h = refl
-none-outside (p ∷ ps) h = neither (not-outside p (h .0)) (none-outside ps (h .1))
+pub none-outside : (n : ℕ) (ps : List Position) → All (InsideOf n) ps → anyBeyond n ps ≡ false
+unfolding anyBeyond
+none-outside n [] h = refl
+none-outside n (p ∷ ps) h = neither (not-outside p (h .0)) (none-outside n ps (h .1))
 
 -- Each point of a list that has none outside, by its index.
-pub point-inside : (ps : List Position) (k : ℕ) {p : Position} → anyOutside ps ≡ false → k < length ps → p ≡ getD ps k origin → outside p ≡ false
-point-inside ps k e h f = rw f (not-outside (getD ps k origin) (all-at Inside ps k origin (all-inside ps e) h))
+pub point-inside : (n : ℕ) (ps : List Position) (k : ℕ) {p : Position} → anyBeyond n ps ≡ false → k < length ps → p ≡ getD ps k origin → beyond n p ≡ false
+point-inside n ps k e h f = rw f (not-outside (getD ps k origin) (all-at (InsideOf n) ps k origin (all-inside n ps e) h))
 
 -- ---- what the list call accepts
 
@@ -102,7 +106,7 @@ accepts-only-outlines zs t e = go (eqb (length zs % 2) 1) (ltb (length (points z
     go false false false false f g h k e = (
       record {
         even = eqb-false (length zs % 2) 1 f;
-        outline = record { enough = ltb-false (length (points zs)) 3 g; few = ltb-false 1024 (length (points zs)) h; inside = all-inside (points zs) k };
+        outline = record { enough = ltb-false (length (points zs)) 3 g; few = ltb-false 1024 (length (points zs)) h; inside = all-inside 2000 (points zs) k };
       },
       sym (ap (λ r. r .totals) e),
     )
@@ -110,7 +114,7 @@ accepts-only-outlines zs t e = go (eqb (length zs % 2) 1) (ltb (length (points z
 -- and every outline.
 pub accepts-outlines : (zs : List ℤ) → OutlineList zs → listCall zs ≡ accepted (outlineTotals (points zs))
 unfolding listCall wrongLength
-accepts-outlines zs o = rw (ne-eqb (length zs % 2) 1 (o .even), le-ltb (length (points zs)) 3 (o .outline .enough), le-ltb 1024 (length (points zs)) (o .outline .few), none-outside (points zs) (o .outline .inside))
+accepts-outlines zs o = rw (ne-eqb (length zs % 2) 1 (o .even), le-ltb (length (points zs)) 3 (o .outline .enough), le-ltb 1024 (length (points zs)) (o .outline .few), none-outside 2000 (points zs) (o .outline .inside))
 
 -- The same for a list of points.
 pub accepts-points : (ps : List Position) → Outline ps → listCall (numbers ps) ≡ accepted (outlineTotals ps)
@@ -118,30 +122,32 @@ accepts-points ps o = rw (points-numbers ps) at (accepts-outlines (numbers ps) (
 
 -- ---- sizes of sums
 
--- No edge within the limits adds more than K.
-abbrev pub Small : Term → ℕ → Type 0
-Small t K = (a b : Position) → Inside a → Inside b → natAbs (t a b) ≤ K
+-- No edge between points within n adds more than K.
+abbrev pub SmallWithin : ℕ → Term → ℕ → Type 0
+SmallWithin n t K = (a b : Position) → InsideOf n a → InsideOf n b → natAbs (t a b) ≤ K
 
-pub path-small : (t : Term) (K : ℕ) → Small t K → (a : Position) (ps : List Position) → Inside a → All Inside ps → natAbs (path t (a ∷ ps)) ≤ length ps * K
+-- No edge within the limits does.
+abbrev pub Small : Term → ℕ → Type 0
+Small t K = SmallWithin 2000 t K
+
+pub path-small : {n : ℕ} (t : Term) (K : ℕ) → SmallWithin n t K → (a : Position) (ps : List Position) → InsideOf n a → All (InsideOf n) ps → natAbs (path t (a ∷ ps)) ≤ length ps * K
 unfolding openEdges sumOver
 path-small t K s a [] h hs = zero-le
 path-small t K s a (b ∷ ps) h hs = omega (arith, natAbs-add (t a b) (path t (b ∷ ps)), s a b h (hs .0), path-small t K s b ps (hs .0) (hs .1))
 
-pub open-small : (ps : List Position) → All Inside ps → (t : Term) (K : ℕ) → Small t K → natAbs (path t ps) ≤ length ps * K
+pub open-small : {n : ℕ} (ps : List Position) → All (InsideOf n) ps → (t : Term) (K : ℕ) → SmallWithin n t K → natAbs (path t ps) ≤ length ps * K
 unfolding openEdges sumOver
 open-small [] h t K s = zero-le
 open-small (a ∷ ps) h t K s = omega (arith, path-small t K s a ps (h .0) (h .1))
 
-pub around-small : (ps : List Position) → All Inside ps → (t : Term) (K : ℕ) → Small t K → natAbs (around t ps) ≤ length ps * K
+pub around-small : {n : ℕ} (ps : List Position) → All (InsideOf n) ps → (t : Term) (K : ℕ) → SmallWithin n t K → natAbs (around t ps) ≤ length ps * K
 unfolding edges sumOver
 around-small [] hs t K s = zero-le
-around-small (a ∷ ps) hs t K s = omega (arith, ap (λ n. n * K) (length-append ps (a ∷ [])), path-small t K s a (ps ++ a ∷ []) (hs .0) (all-append Inside ps (a ∷ []) (hs .1) (hs .0, tt)))
+around-small {n} (a ∷ ps) hs t K s = omega (arith, ap (λ m. m * K) (length-append ps (a ∷ [])), path-small t K s a (ps ++ a ∷ []) (hs .0) (all-append (InsideOf n) ps (a ∷ []) (hs .1) (hs .0, tt)))
 
-abbrev limits : List ℕ
-limits = 2000 ∷ 2000 ∷ 2000 ∷ 2000 ∷ []
-
-small : (t : Term) {K : ℕ} (a b : Position) → Inside a → Inside b → (q : Quote (coordinates a b) (t a b)) → T (leb (bound limits q) K) → natAbs (t a b) ≤ K
-small t a b h k q w = within (coordinates a b) limits (h .0, (h .1, (k .0, (k .1, tt)))) (t a b) q w
+-- An edge's term, by its polynomial: a computed test.
+pub small : {n : ℕ} (t : Term) {K : ℕ} (a b : Position) → InsideOf n a → InsideOf n b → (q : Quote (coordinates a b) (t a b)) → T (leb (bound (n ∷ n ∷ n ∷ n ∷ []) q) K) → natAbs (t a b) ≤ K
+small {n} t a b h k q w = within (coordinates a b) (n ∷ n ∷ n ∷ n ∷ []) (h .0, (h .1, (k .0, (k .1, tt)))) (t a b) q w
 
 pub fit-exceed : (b : Sizes) (t : Totals) → Fit b t → exceed b t ≡ false
 unfolding exceed

@@ -98,7 +98,7 @@ module _ (m : AffineMap) where
   Stays p = Inside (movePoint m p)
 
   pub all-stay : (ps : List Position) → Outline ps → anyOutside (moved m ps) ≡ false → OutlineIn Stays ps
-  all-stay ps o h = record { enough = o .enough; few = o .few; inside = map-all Inside (movePoint m) ps (all-inside (moved m ps) h) }
+  all-stay ps o h = record { enough = o .enough; few = o .few; inside = map-all Inside (movePoint m) ps (all-inside 2000 (moved m ps) h) }
 
   pub moved-outline : (ps : List Position) → OutlineIn Stays ps → Outline (moved m ps)
   moved-outline ps o = record { enough = rw (length-map ps (movePoint m)) (o .enough); few = rw (length-map ps (movePoint m)) (o .few); inside = all-map Stays Inside (movePoint m) (λ p h. h) ps (o .inside) }

@@ -1,13 +1,10 @@
--- Terms that change sign with their edge; the six of the table do, so what holds of every such term holds of the six.
+-- The six terms of the table change sign with their edge, so what holds of every such term holds of the six.
 use mathlib.Core.Path.{_≡_}
-use lib.IntN.{ℤ, negℤ}
+use lib.IntN.{ℤ}
 use Rattle.integers.proofs.Ring.{ring, quote}
-use Rattle.outline.specs.declared.Position.{Position}
 use Rattle.outline.specs.EdgeSums.{Term, a2, x6, y6, xx12, xy24, yy12, six}
+use Rattle.outline.specs.OddTerms.{Odd}
 use Rattle.outline.proofs.EdgeSumLaws.{coordinates}
-
-abbrev pub Odd : Term → Type 0
-Odd t = (a b : Position) → t b a ≡ negℤ (t a b)
 
 pub for-six : (f g : Term → ℤ) → ((t : Term) → Odd t → f t ≡ g t) → six f ≡ six g
 for-six f g h =

@@ -80,14 +80,14 @@ identity-allowed = refl
 -- ---- no map
 
 -- Started at position 0, a piece is as it was.
-first-start : (pieces : List Piece) → placed forwards (λ k. 0) pieces ≡ pieces
+pub first-start : (pieces : List Piece) → placed forwards (λ k. 0) pieces ≡ pieces
 unfolding placed walked
 first-start [] = refl
 first-start (p ∷ pieces) = ap₂ {C = List Piece} (λ b l. b ∷ l) (append-nil p) (first-start pieces)
 
 module _ (zs : List ℤ) (t : Totals) (taken : listCall zs ≡ accepted t) where
   identity-bounds : anyOutside (moved identity (points zs)) ≡ false
-  identity-bounds = ap anyOutside (map-same (movePoint identity) identity-point (points zs)) ∙ none-outside (points zs) (accepts-only-outlines zs t taken .0 .outline .inside)
+  identity-bounds = ap anyOutside (map-same (movePoint identity) identity-point (points zs)) ∙ none-outside 2000 (points zs) (accepts-only-outlines zs t taken .0 .outline .inside)
 
   identity-answer : mapCall identity t ≡ accepted t
   identity-answer =

@@ -7,7 +7,7 @@ use lib.IntN.{ℤ, pos, negsuc}
 use Rattle.outline.specs.declared.Totals.{Totals}
 use Rattle.outline.specs.declared.AffineMap.{AffineMap}
 use Rattle.outline.specs.EdgeSums.{openEdges, edges, sumOver, over, exceed, zeros, negated}
-use Rattle.outline.specs.ListCall.{accepted, points, numbers, outside, anyOutside, wrongLength, listCall}
+use Rattle.outline.specs.ListCall.{accepted, points, numbers, beyond, anyBeyond, anyOutside, wrongLength, listCall}
 use Rattle.outline.specs.MapCall.{moved, disallowed, mapCall}
 use Rattle.outline.specs.Pieces.{Piece, Cut, neighbours, canCut, cutOnce, cutAll, piecesOf, startAt, Direction, backwards, walked, placed, totalsOf, sumOf, directed}
 use Rattle.outline.specs.PiecesAddUp.{AddUpMoved}
@@ -25,7 +25,7 @@ abbrev pub pentagonTotals : Totals
 pentagonTotals = record { a2 = pos 30; x6 = pos 196; y6 = pos 154; xx12 = pos 1136; xy24 = pos 1316; yy12 = pos 702 }
 
 pub pentagon-taken : listCall pentagon ≡ accepted pentagonTotals
-unfolding openEdges edges sumOver over points outside anyOutside wrongLength listCall
+unfolding openEdges edges sumOver over points beyond anyBeyond wrongLength listCall
 pentagon-taken = refl
 
 abbrev cut : ℕ → ℕ → ℕ → Cut
@@ -79,7 +79,7 @@ unfolding disallowed over
 flat-allowed = refl
 
 pub flat-bounds : anyOutside (moved flat (points pentagon)) ≡ false
-unfolding points over outside anyOutside
+unfolding points over beyond anyBeyond
 flat-bounds = refl
 
 flat-use : AddUpMoved flat backwards pentagonTotals (map (moved flat) reversed)
@@ -110,7 +110,7 @@ unfolding disallowed over
 mirror-allowed = refl
 
 pub mirror-bounds : anyOutside (moved mirror (points pentagon)) ≡ false
-unfolding points over outside anyOutside
+unfolding points over beyond anyBeyond
 mirror-bounds = refl
 
 pub mirror-answer : mapCall mirror pentagonTotals ≡ accepted mirrored
@@ -141,7 +141,7 @@ unfolding disallowed over
 far-allowed = refl
 
 far-bounds : (anyOutside (moved far corner) ≡ false) × (anyOutside (moved far (points pentagon)) ≡ true)
-unfolding points over outside anyOutside
+unfolding points over beyond anyBeyond
 far-bounds = (refl, refl)
 
 far-corner : OnePiece far backwards (totalsOf corner) (moved far (startAt 2 (walked backwards corner)))

@@ -6,8 +6,8 @@ use Rattle.integers.proofs.Ring.{ring, quote}
 use Rattle.outline.specs.declared.Position.{Position}
 use Rattle.outline.specs.EdgeSums.{Term, openEdges, edges, sumOver}
 use Rattle.outline.specs.Pieces.{Piece}
+use Rattle.outline.specs.OddTerms.{Odd}
 use Rattle.outline.proofs.EdgeSumLaws.{path, around, join}
-use Rattle.outline.proofs.OddTerms.{Odd}
 use Rattle.outline.proofs.StartLaw.{rotation}
 
 path-back : (t : Term) → Odd t → (ps : List Position) → path t (reverse ps) ≡ negℤ (path t ps)

@@ -16,7 +16,7 @@ use Rattle.outline.specs.declared.AffineMap.{AffineMap}
 use Rattle.outline.specs.declared.Walk.{Walk}
 use Rattle.outline.specs.declared.Sheet.{Sheet}
 use Rattle.outline.specs.EdgeSums.{openEdges, edges, sumOver, zeros, over, exceed, outlineTotals}
-use Rattle.outline.specs.ListCall.{accepted, points, numbers, outside, anyOutside, listCall}
+use Rattle.outline.specs.ListCall.{accepted, points, numbers, beyond, anyOutside, listCall}
 use Rattle.outline.specs.MapCall.{moved, disallowed}
 use Rattle.outline.specs.Pieces.{Cut, piecesOf, startAt, Direction, backwards, walked, placed}
 use Rattle.outline.specs.WalkCalls.{closed, sheetOf, extended, closedTotals, hasSign, turned, zeroArea, sheetWith, impossibleWalk, impossibleSheet, beginCall, pointCall, endCall, abandonCall}
@@ -43,18 +43,18 @@ eight =
     }
 
 eight-ring : reached eight .ring ≡ ringOf Hole (at (pos 0) (pos 0) ∷ at (pos 2) (pos 2) ∷ at (pos 2) (pos 0) ∷ at (pos 0) (pos 2) ∷ [])
-unfolding over exceed outside extended hasSign turned zeroArea notFinite belowZero lt impossibleWalk impossibleSheet beginCall pointCall endCall numberOf walkAfter ringWith next after
+unfolding over exceed beyond extended hasSign turned zeroArea notFinite belowZero lt impossibleWalk impossibleSheet beginCall pointCall endCall numberOf walkAfter ringWith next after
 eight-ring = refl
 
 eight-closable : Closable (reached eight .walk)
-unfolding over exceed outside extended hasSign turned zeroArea notFinite belowZero lt impossibleWalk impossibleSheet beginCall pointCall endCall numberOf walkAfter ringWith next after
+unfolding over exceed beyond extended hasSign turned zeroArea notFinite belowZero lt impossibleWalk impossibleSheet beginCall pointCall endCall numberOf walkAfter ringWith next after
 eight-closable = record { is-open = refl; enough = omega arith }
 
 abbrev eightTotals : Totals
 eightTotals = record { a2 = pos 0; x6 = negsuc 7; y6 = pos 0; xx12 = negsuc 31; xy24 = negsuc 31; yy12 = pos 0 }
 
 eight-computed : outlineTotals (reached eight .ring .points) ≡ eightTotals
-unfolding openEdges edges sumOver over exceed outside extended hasSign turned zeroArea notFinite belowZero lt impossibleWalk impossibleSheet beginCall pointCall endCall numberOf walkAfter ringWith next after
+unfolding openEdges edges sumOver over exceed beyond extended hasSign turned zeroArea notFinite belowZero lt impossibleWalk impossibleSheet beginCall pointCall endCall numberOf walkAfter ringWith next after
 eight-computed = refl
 
 -- Its totals with the closing edge are the edge sums all the same, and what the list call answers,
@@ -90,15 +90,15 @@ back =
     }
 
 back-points : reached back .ring .points ≡ startAt 3 (walked backwards (reached first .ring .points))
-unfolding over exceed outside extended hasSign turned zeroArea notFinite belowZero lt impossibleWalk impossibleSheet beginCall pointCall endCall abandonCall numberOf walkAfter ringWith next after walked
+unfolding over exceed beyond extended hasSign turned zeroArea notFinite belowZero lt impossibleWalk impossibleSheet beginCall pointCall endCall abandonCall numberOf walkAfter ringWith next after walked
 back-points = refl
 
 back-kind : reached back .ring .kind ≡ reached first .ring .kind
-unfolding over exceed outside extended hasSign turned zeroArea notFinite belowZero lt impossibleWalk impossibleSheet beginCall pointCall endCall abandonCall numberOf walkAfter ringWith next after
+unfolding over exceed beyond extended hasSign turned zeroArea notFinite belowZero lt impossibleWalk impossibleSheet beginCall pointCall endCall abandonCall numberOf walkAfter ringWith next after
 back-kind = refl
 
 back-open : reached back .walk .is_open ≡ true
-unfolding over exceed outside extended hasSign turned zeroArea notFinite belowZero lt impossibleWalk impossibleSheet beginCall pointCall endCall abandonCall numberOf walkAfter ringWith next after
+unfolding over exceed beyond extended hasSign turned zeroArea notFinite belowZero lt impossibleWalk impossibleSheet beginCall pointCall endCall abandonCall numberOf walkAfter ringWith next after
 back-open = refl
 
 same-end : (s : Sheet) → SameEnd (endCall (reached first .walk) s) (endCall (reached back .walk) s)

@@ -20,7 +20,7 @@ use Rattle.outline.specs.EveryOutline.{endedWith}
 use Rattle.outline.specs.Rings.{SignByKind, SameEnd, WalkedBack}
 use Rattle.outline.proofs.IndexLaws.{points-numbers}
 use Rattle.outline.proofs.CallCases.{end-accepted}
-use Rattle.outline.proofs.PiecesAddUp.{walked-length, start-length}
+use Rattle.outline.proofs.PlacedPieces.{walked-length, start-length}
 use Rattle.outline.proofs.PiecesLaws.{no-cut-no-map}
 use Rattle.outline.proofs.TurnedTotals.{sign-of-turned, turned-directed, directed-zeroArea}
 use Rattle.outline.proofs.WalkedOutline.{walked-outline}

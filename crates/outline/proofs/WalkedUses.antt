@@ -15,7 +15,7 @@ use Rattle.outline.specs.declared.AffineMap.{AffineMap}
 use Rattle.outline.specs.declared.Walk.{Walk}
 use Rattle.outline.specs.declared.Sheet.{Sheet}
 use Rattle.outline.specs.EdgeSums.{openEdges, edges, sumOver, over, exceed, zeros, outlineTotals}
-use Rattle.outline.specs.ListCall.{accepted, points, numbers, outside, anyOutside, listCall}
+use Rattle.outline.specs.ListCall.{accepted, points, numbers, beyond, anyOutside, listCall}
 use Rattle.outline.specs.MapCall.{moved, disallowed, mapCall}
 use Rattle.outline.specs.Pieces.{Cut, piecesOf, startAt, Direction, backwards, walked, placed, totalsOf, sumOf, directed}
 use Rattle.outline.specs.WalkCalls.{origin, closed, sheetOf, newSheet, extended, closedTotals, hasSign, turned, zeroArea, impossibleWalk, impossibleSheet, beginCall, pointCall, endCall, abandonCall}
@@ -51,22 +51,22 @@ second =
     }
 
 pub first-ring : reached first .ring ≡ ringOf Island (points pentagon)
-unfolding points over exceed outside extended hasSign turned zeroArea notFinite belowZero lt impossibleWalk impossibleSheet beginCall pointCall endCall abandonCall numberOf walkAfter ringWith next after
+unfolding points over exceed beyond extended hasSign turned zeroArea notFinite belowZero lt impossibleWalk impossibleSheet beginCall pointCall endCall abandonCall numberOf walkAfter ringWith next after
 first-ring = refl
 
 first-points : reached first .ring .points ≡ points pentagon
 first-points = ap (λ g. g .points) first-ring
 
 second-points : reached second .ring .points ≡ moved mirror (startAt 3 (walked backwards (reached first .ring .points)))
-unfolding over exceed outside extended hasSign turned zeroArea notFinite belowZero lt impossibleWalk impossibleSheet beginCall pointCall endCall abandonCall numberOf walkAfter ringWith next after walked
+unfolding over exceed beyond extended hasSign turned zeroArea notFinite belowZero lt impossibleWalk impossibleSheet beginCall pointCall endCall abandonCall numberOf walkAfter ringWith next after walked
 second-points = refl
 
 pub first-closable : Closable (reached first .walk)
-unfolding over exceed outside extended hasSign turned zeroArea notFinite belowZero lt impossibleWalk impossibleSheet beginCall pointCall endCall abandonCall numberOf walkAfter ringWith next after
+unfolding over exceed beyond extended hasSign turned zeroArea notFinite belowZero lt impossibleWalk impossibleSheet beginCall pointCall endCall abandonCall numberOf walkAfter ringWith next after
 first-closable = record { is-open = refl; enough = omega arith }
 
 second-closable : Closable (reached second .walk)
-unfolding over exceed outside extended hasSign turned zeroArea notFinite belowZero lt impossibleWalk impossibleSheet beginCall pointCall endCall abandonCall numberOf walkAfter ringWith next after
+unfolding over exceed beyond extended hasSign turned zeroArea notFinite belowZero lt impossibleWalk impossibleSheet beginCall pointCall endCall abandonCall numberOf walkAfter ringWith next after
 second-closable = record { is-open = refl; enough = omega arith }
 
 -- The last place of a sheet whose totals the pentagon brings to 10^18.
@@ -74,16 +74,16 @@ abbrev pub lastPlace : Sheet
 lastPlace = sheetOf 63 (record { a2 = pos 999_999_999_999_999_970; x6 = pos 999_999_999_999_999_804; y6 = pos 999_999_999_999_999_846; xx12 = pos 999_999_999_999_998_864; xy24 = pos 999_999_999_999_998_684; yy12 = pos 999_999_999_999_999_298 })
 
 first-ends-there : endCall (reached first .walk) lastPlace .number ≡ 0
-unfolding over exceed outside extended hasSign turned zeroArea notFinite belowZero lt impossibleWalk impossibleSheet beginCall pointCall endCall abandonCall numberOf walkAfter ringWith next after
+unfolding over exceed beyond extended hasSign turned zeroArea notFinite belowZero lt impossibleWalk impossibleSheet beginCall pointCall endCall abandonCall numberOf walkAfter ringWith next after
 first-ends-there = refl
 
 -- The ring of a walk that has ended, or was abandoned, stays in the trace until the next begin.
 ended-ring : after (from closed) (begin Hole ∷ point (at (pos 1) (pos 0)) ∷ point (at (pos 0) (pos 1)) ∷ point origin ∷ end newSheet ∷ []) .ring ≡ ringOf Hole (at (pos 1) (pos 0) ∷ at (pos 0) (pos 1) ∷ origin ∷ [])
-unfolding over exceed outside extended hasSign turned zeroArea notFinite belowZero lt impossibleWalk impossibleSheet beginCall pointCall endCall numberOf walkAfter ringWith next after
+unfolding over exceed beyond extended hasSign turned zeroArea notFinite belowZero lt impossibleWalk impossibleSheet beginCall pointCall endCall numberOf walkAfter ringWith next after
 ended-ring = refl
 
 abandoned-ring : after (from closed) (begin Hole ∷ point origin ∷ abandon ∷ []) .ring ≡ ringOf Hole (origin ∷ [])
-unfolding over exceed outside extended notFinite belowZero lt impossibleWalk beginCall pointCall abandonCall numberOf walkAfter ringWith next after
+unfolding over exceed beyond extended notFinite belowZero lt impossibleWalk beginCall pointCall abandonCall numberOf walkAfter ringWith next after
 abandoned-ring = refl
 
 -- ---- walked outlines
@@ -138,7 +138,7 @@ abbrev ended : List Walk
 ended = reached first .walk ∷ closed ∷ reached second .walk ∷ openOf 3 pentagonTotals ∷ []
 
 added : addedBy newSheet ended ≡ pentagonTotals ∷ mirrored ∷ pentagonTotals ∷ []
-unfolding over exceed outside extended hasSign turned zeroArea notFinite belowZero lt impossibleWalk impossibleSheet beginCall pointCall endCall abandonCall numberOf walkAfter ringWith next after addedBy
+unfolding over exceed beyond extended hasSign turned zeroArea notFinite belowZero lt impossibleWalk impossibleSheet beginCall pointCall endCall abandonCall numberOf walkAfter ringWith next after addedBy
 added = refl
 
 sheet-count : sheetAfter newSheet ended .count ≡ 3
@@ -158,7 +158,7 @@ abbrev walks : List Walking
 walks = first ∷ notBegun ∷ second ∷ []
 
 rings : ringsOn newSheet (map reached walks) ≡ reached first .ring ∷ reached second .ring ∷ []
-unfolding over exceed outside extended hasSign turned zeroArea notFinite belowZero lt impossibleWalk impossibleSheet beginCall pointCall endCall abandonCall numberOf walkAfter ringWith next after ringsOn
+unfolding over exceed beyond extended hasSign turned zeroArea notFinite belowZero lt impossibleWalk impossibleSheet beginCall pointCall endCall abandonCall numberOf walkAfter ringWith next after ringsOn
 rings = refl
 
 walked-totals : sheetAfter newSheet (map (λ k. reached k .walk) walks) .totals ≡ sumOf (ringTotals (reached first .ring) ∷ ringTotals (reached second .ring) ∷ [])

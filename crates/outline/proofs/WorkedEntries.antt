@@ -13,7 +13,7 @@ use Rattle.receiver.proofs.WorkedFloats.{float}
 use Rattle.outline.specs.declared.Kind.the-variants.{Island, Hole}
 use Rattle.outline.specs.declared.Walk.{Walk}
 use Rattle.outline.specs.EdgeSums.{zeros, over, exceed}
-use Rattle.outline.specs.ListCall.{outside}
+use Rattle.outline.specs.ListCall.{beyond}
 use Rattle.outline.specs.FixCall.{fixNotFinite}
 use Rattle.outline.specs.WalkCalls.{origin, openWalk, opened, closed, newSheet, extended, hasSign, turned, zeroArea, impossibleWalk, impossibleSheet, refusedWalk, refusedEnd, beginCall, pointCall, endCall, abandonCall}
 use Rattle.outline.specs.EntryCalls.{longer, fixCall, outageCall, entryCall}
@@ -60,7 +60,7 @@ record FixOrder : Type 0 where
   none : told (openOf 1023 zeros) near ≡ 0
 
 fix-order : FixOrder
-unfolding trailingZeros odd ofFields ofBits lt roundsTo firstRounded roundHalfUp notFinite rounded belowZero over exceed outside fixNotFinite extended impossibleWalk pointCall fixCall entryCall
+unfolding trailingZeros odd ofFields ofBits lt roundsTo firstRounded roundHalfUp notFinite rounded belowZero over exceed beyond fixNotFinite extended impossibleWalk pointCall fixCall entryCall
 fix-order = record { impossible-33 = refl; impossible-1 = refl; impossible-23 = refl; closed-33 = refl; closed-1 = refl; closed-23 = refl; infinite-1-23 = refl; far-23 = refl; only-23 = refl; none = refl }
 
 -- Order 28, 21, 33, 34; minus infinity meets both 33 and 34. A full walk takes an outage, and so does one without a point.
@@ -78,7 +78,7 @@ record OutageOrder : Type 0 where
   pointless : told (openOf 0 zeros) (outage 0x40A0_0000) ≡ 0
 
 outage-order : OutageOrder
-unfolding trailingZeros odd ofFields ofBits lt notFinite belowZero over exceed outside longer impossibleWalk outageCall entryCall
+unfolding trailingZeros odd ofFields ofBits lt notFinite belowZero over exceed beyond longer impossibleWalk outageCall entryCall
 outage-order = record { impossible-33 = refl; impossible-34 = refl; closed-33 = refl; closed-34 = refl; closed-good = refl; minus-infinity = refl; no-number = refl; infinity = refl; minus-one = refl; full = refl; pointless = refl }
 
 -- ---- both sides of the limits of 34 and of 28: the two zeros, the numbers next to zero, the greatest, the infinities, and what is no number
@@ -100,7 +100,7 @@ record Limits : Type 0 where
   marked-closed : map (λ o. abandonCall (markedClosed (keeping 0 o))) floats ≡ map (λ o. refusedWalk 21 (markedClosed (keeping 0 o))) floats
 
 limits : Limits
-unfolding trailingZeros odd ofFields ofBits lt roundsTo firstRounded roundHalfUp notFinite rounded belowZero over exceed outside fixNotFinite extended longer zeroArea impossibleWalk impossibleSheet beginCall pointCall endCall abandonCall fixCall outageCall entryCall
+unfolding trailingZeros odd ofFields ofBits lt roundsTo firstRounded roundHalfUp notFinite rounded belowZero over exceed beyond fixNotFinite extended longer zeroArea impossibleWalk impossibleSheet beginCall pointCall endCall abandonCall fixCall outageCall entryCall
 limits = record { outages = refl; outage-kept = refl; fixed = refl; pointed = refl; begun = refl; ended = refl; abandoned = refl; of-a-hole = refl; marked-closed = refl }
 
 -- ---- which outage is kept
@@ -126,7 +126,7 @@ record Kept : Type 0 where
   below-refused : after 0x4000_0000 0xBF80_0000 ≡ handed (float 0x4000_0000)
 
 kept : Kept
-unfolding trailingZeros odd ofFields ofBits lt notFinite belowZero over exceed outside longer impossibleWalk outageCall entryCall
+unfolding trailingZeros odd ofFields ofBits lt notFinite belowZero over exceed beyond longer impossibleWalk outageCall entryCall
 kept = record { shorter = refl; equal = refl; greater = refl; minus-zero = refl; plus-zero = refl; infinite-refused = refl; below-refused = refl }
 
 -- ---- point, end, abandon and begin
@@ -155,5 +155,5 @@ record Calls : Type 0 where
   begun-no-number : beginCall (markedClosed (handed nan)) Hole .walk .outage ≡ float 0
 
 calls : Calls
-unfolding trailingZeros odd ofFields ofBits lt roundsTo firstRounded roundHalfUp notFinite rounded belowZero over exceed outside fixNotFinite extended hasSign turned zeroArea impossibleWalk impossibleSheet beginCall pointCall endCall abandonCall fixCall entryCall
+unfolding trailingZeros odd ofFields ofBits lt roundsTo firstRounded roundHalfUp notFinite rounded belowZero over exceed beyond fixNotFinite extended hasSign turned zeroArea impossibleWalk impossibleSheet beginCall pointCall endCall abandonCall fixCall entryCall
 calls = record { point = refl; fixed = refl; point-minus-zero = refl; first-point = refl; end = refl; end-minus-zero = refl; ended = refl; refused = refl; refused-outage = refl; abandoned = refl; begun = refl; begun-no-number = refl }

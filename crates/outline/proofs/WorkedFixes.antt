@@ -10,7 +10,7 @@ use Rattle.receiver.specs.Floats.{notFinite}
 use Rattle.receiver.proofs.WorkedFloats.{float, Rounds, at-limits, about-zero, greatest}
 use Rattle.outline.specs.declared.Position.{Position}
 use Rattle.outline.specs.EdgeSums.{over}
-use Rattle.outline.specs.ListCall.{outside}
+use Rattle.outline.specs.ListCall.{beyond, outside}
 use Rattle.outline.specs.FixCall.{FixOutcome, noPoint, fixNotFinite, fixPointCall}
 
 -- The fix of two floats, each by its bits.
@@ -50,7 +50,7 @@ record Finite : Type 0 where
   greatest-east : fixPointCall (fix 0x7F7FFFFF 0x00000000) ≡ noPoint 1
 
 finite-fixes : Finite
-unfolding over outside
+unfolding over beyond
 finite-fixes = record {
   at-both-limits = finite (at-limits .low-half) (at-limits .below-high-half);
   exchanged = finite (at-limits .below-high-half) (at-limits .low-half);

@@ -14,7 +14,7 @@ use Rattle.outline.specs.declared.AffineMap.{AffineMap}
 use Rattle.outline.specs.declared.Kind.{Kind}
 use Rattle.outline.specs.declared.Kind.the-variants.{Island, Hole}
 use Rattle.outline.specs.EdgeSums.{zeros, plus, negated, over, exceed}
-use Rattle.outline.specs.ListCall.{points, outside, anyOutside, wrongLength, listCall}
+use Rattle.outline.specs.ListCall.{points, beyond, anyBeyond, wrongLength, listCall}
 use Rattle.outline.specs.MapCall.{disallowed, mapCall}
 use Rattle.outline.specs.WalkCalls.{origin, openWalk, opened, closed, sheetOf, newSheet, extended, hasSign, turned, zeroArea, impossibleWalk, impossibleSheet, pointCall, endCall, abandonCall}
 use Rattle.outline.proofs.PiecesLaws.{identity}
@@ -41,15 +41,15 @@ allSizes n = record { a2 = n; x6 = n; y6 = n; xx12 = n; xy24 = n; yy12 = n }
 
 -- 28 of a walk: the share of its points, 0 where it has none, the outline bounds where it has 1,024.
 share-of-3 : Limited (λ t. pointCall (openOf 3 t) origin .number) shareOfThree 0 28
-unfolding over exceed outside notFinite belowZero lt impossibleWalk pointCall
+unfolding over exceed beyond notFinite belowZero lt impossibleWalk pointCall
 share-of-3 = record { greatest = refl; least = refl; above = refl; below = refl }
 
 share-of-1024 : Limited (λ t. abandonCall (openOf 1024 t) .number) outlineSizes 0 28
-unfolding over exceed outside notFinite belowZero lt impossibleWalk abandonCall
+unfolding over exceed beyond notFinite belowZero lt impossibleWalk abandonCall
 share-of-1024 = record { greatest = refl; least = refl; above = refl; below = refl }
 
 share-of-none : Limited (λ t. abandonCall (openOf 0 t) .number) (allSizes 0) 0 28
-unfolding over exceed outside notFinite belowZero lt impossibleWalk abandonCall
+unfolding over exceed beyond notFinite belowZero lt impossibleWalk abandonCall
 share-of-none = record { greatest = refl; least = refl; above = refl; below = refl }
 
 -- 28 of a sheet: 10^18. The walk is closed, so that 21 comes where 28 does not.
@@ -85,12 +85,12 @@ record Filled : Type 0 where
   down-again : lowered (map negated (withArea 1 ++ withArea 2)) ≡ replicate 6 0 ++ replicate 6 26
 
 filled : Filled
-unfolding over exceed outside hasSign turned zeroArea notFinite belowZero lt impossibleWalk impossibleSheet endCall
+unfolding over exceed beyond hasSign turned zeroArea notFinite belowZero lt impossibleWalk impossibleSheet endCall
 filled = record { up = refl; down = refl; up-again = refl; down-again = refl }
 
 -- The closing edge, from (0,1) to (1,0), adds -1 to each total: 26 looks at the sums with it. Each total fills the sheet's, and none has room for 1 more.
 with-closing-edge : map (λ t. endCall (openWalk Island 3 (at (pos 1) (pos 0)) (at (pos 0) (pos 1)) (plus (allTotals (pos 2)) t) plusZero) (sheetOf 0 (allTotals (pos 999_999_999_999_999_999))) .number) (zeros ∷ eachAlone pos (allSizes 1)) ≡ 0 ∷ replicate 6 26
-unfolding over exceed outside hasSign turned zeroArea notFinite belowZero lt impossibleWalk impossibleSheet endCall
+unfolding over exceed beyond hasSign turned zeroArea notFinite belowZero lt impossibleWalk impossibleSheet endCall
 with-closing-edge = refl
 
 -- 32: an A2 of 0 with the closing edge, whatever the other totals are, and either kind.
@@ -98,7 +98,7 @@ abbrev ended : Kind → List ℕ
 ended k = map (λ t. endCall (openWalk k 3 (at (pos 1) (pos 0)) (at (pos 0) (pos 1)) t plusZero) newSheet .number) (area 1 ∷ allTotals (pos 1) ∷ allTotals (pos 2) ∷ zeros ∷ record { a2 = pos 1; x6 = pos 7; y6 = pos 7; xx12 = pos 7; xy24 = pos 7; yy12 = pos 7 } ∷ [])
 
 zero-area : ended Island ++ ended Hole ≡ 32 ∷ 32 ∷ 0 ∷ 0 ∷ 32 ∷ 32 ∷ 32 ∷ 0 ∷ 0 ∷ 32 ∷ []
-unfolding over exceed outside hasSign turned zeroArea notFinite belowZero lt impossibleWalk impossibleSheet endCall
+unfolding over exceed beyond hasSign turned zeroArea notFinite belowZero lt impossibleWalk impossibleSheet endCall
 zero-area = refl
 
 -- 5: doubled, a second moment is 16 times as large: 10^18 is taken, and 10^18 + 16 is not. (A2, X6 and Y6 that 4 takes are never mapped so far.)
@@ -139,20 +139,20 @@ one-past = refl
 abbrev inside : List Position
 inside = at (pos 2000) (pos 0) ∷ at (pos 0) (pos 2000) ∷ at (negsuc 1999) (pos 0) ∷ at (pos 0) (negsuc 1999) ∷ []
 
-abbrev beyond : List Position
-beyond = at (pos 2001) (pos 0) ∷ at (pos 0) (pos 2001) ∷ at (negsuc 2000) (pos 0) ∷ at (pos 0) (negsuc 2000) ∷ []
+abbrev far : List Position
+far = at (pos 2001) (pos 0) ∷ at (pos 0) (pos 2001) ∷ at (negsuc 2000) (pos 0) ∷ at (pos 0) (negsuc 2000) ∷ []
 
 record Coordinates : Type 0 where
   -- 1, of a point and of the first and the last point of a list
-  point : map (λ p. pointCall (opened Island) p .number) (inside ++ beyond) ≡ replicate 4 0 ++ replicate 4 1
-  first-listed : map (λ p. listCall (p .x ∷ p .y ∷ pos 0 ∷ pos 0 ∷ pos 1 ∷ pos 1 ∷ []) .number) (inside ++ beyond) ≡ replicate 4 0 ++ replicate 4 1
-  last-listed : map (λ p. listCall (pos 0 ∷ pos 0 ∷ pos 1 ∷ pos 1 ∷ p .x ∷ p .y ∷ []) .number) (inside ++ beyond) ≡ replicate 4 0 ++ replicate 4 1
+  point : map (λ p. pointCall (opened Island) p .number) (inside ++ far) ≡ replicate 4 0 ++ replicate 4 1
+  first-listed : map (λ p. listCall (p .x ∷ p .y ∷ pos 0 ∷ pos 0 ∷ pos 1 ∷ pos 1 ∷ []) .number) (inside ++ far) ≡ replicate 4 0 ++ replicate 4 1
+  last-listed : map (λ p. listCall (pos 0 ∷ pos 0 ∷ pos 1 ∷ pos 1 ∷ p .x ∷ p .y ∷ []) .number) (inside ++ far) ≡ replicate 4 0 ++ replicate 4 1
   -- 28, of the first and the last point of a walk
-  first-walked : map (λ p. abandonCall (openWalk Island 1 p origin zeros plusZero) .number) (inside ++ beyond) ≡ replicate 4 0 ++ replicate 4 28
-  last-walked : map (λ p. abandonCall (openWalk Island 1 origin p zeros plusZero) .number) (inside ++ beyond) ≡ replicate 4 0 ++ replicate 4 28
+  first-walked : map (λ p. abandonCall (openWalk Island 1 p origin zeros plusZero) .number) (inside ++ far) ≡ replicate 4 0 ++ replicate 4 28
+  last-walked : map (λ p. abandonCall (openWalk Island 1 origin p zeros plusZero) .number) (inside ++ far) ≡ replicate 4 0 ++ replicate 4 28
 
 coordinates : Coordinates
-unfolding over exceed points outside anyOutside wrongLength listCall extended notFinite belowZero lt impossibleWalk pointCall abandonCall
+unfolding over exceed points beyond anyBeyond wrongLength listCall extended notFinite belowZero lt impossibleWalk pointCall abandonCall
 coordinates = record { point = refl; first-listed = refl; last-listed = refl; first-walked = refl; last-walked = refl }
 
 -- ---- counts
@@ -168,7 +168,7 @@ record Counts : Type 0 where
   outlines : map (λ n. endCall (openOf 3 (area 1)) (sheetOf n zeros) .number) (63 ∷ 64 ∷ 65 ∷ []) ≡ 0 ∷ 25 ∷ 28 ∷ []
 
 counts : Counts
-unfolding over exceed points outside anyOutside wrongLength listCall extended hasSign turned zeroArea notFinite belowZero lt impossibleWalk impossibleSheet pointCall endCall
+unfolding over exceed points beyond anyBeyond wrongLength listCall extended hasSign turned zeroArea notFinite belowZero lt impossibleWalk impossibleSheet pointCall endCall
 counts = record { listed = refl; points-walked = refl; points-ended = refl; outlines = refl }
 
 -- ---- maps

@@ -12,7 +12,7 @@ use Rattle.outline.specs.declared.AffineMap.{AffineMap}
 use Rattle.outline.specs.declared.Walk.{Walk}
 use Rattle.outline.specs.declared.Kind.the-variants.{Island}
 use Rattle.outline.specs.EdgeSums.{zeros, over, exceed}
-use Rattle.outline.specs.ListCall.{points, outside, anyOutside, wrongLength, listCall}
+use Rattle.outline.specs.ListCall.{points, beyond, anyBeyond, wrongLength, listCall}
 use Rattle.outline.specs.MapCall.{disallowed, mapCall}
 use Rattle.outline.specs.WalkCalls.{origin, closed, sheetOf, newSheet, hasSign, turned, zeroArea, impossibleWalk, impossibleSheet, beginCall, pointCall, endCall, abandonCall}
 use Rattle.outline.proofs.WorkedInputs.{at, area, openOf, markedClosed, doubling}
@@ -42,7 +42,7 @@ record Begin : Type 0 where
   only-22 : beginCall (openOf 3 zeros) Island .number ≡ 22
 
 begin : Begin
-unfolding over exceed outside notFinite belowZero lt impossibleWalk beginCall
+unfolding over exceed beyond notFinite belowZero lt impossibleWalk beginCall
 begin = record { impossible-22 = refl; only-22 = refl }
 
 -- Order 28, 21, 1, 23.
@@ -54,7 +54,7 @@ record Point : Type 0 where
   far-23 : pointCall (openOf 1024 zeros) far .number ≡ 1
 
 point : Point
-unfolding over exceed outside notFinite belowZero lt impossibleWalk pointCall
+unfolding over exceed beyond notFinite belowZero lt impossibleWalk pointCall
 point = record { impossible-1 = refl; impossible-23 = refl; closed-1 = refl; closed-23 = refl; far-23 = refl }
 
 -- Zero area, and another total that no sheet with that total at its limit can take.
@@ -92,7 +92,7 @@ record End : Type 0 where
   only-26 : endCall (openOf 3 (area 1)) (sheetOf 63 most) .number ≡ 26
 
 end : End
-unfolding over exceed outside hasSign turned zeroArea notFinite belowZero lt impossibleWalk impossibleSheet endCall
+unfolding over exceed beyond hasSign turned zeroArea notFinite belowZero lt impossibleWalk impossibleSheet endCall
 end = record { sheet-21 = refl; sheet-24 = refl; walk-24 = refl; sheet-32 = refl; walk-32 = refl; walk-25 = refl; walk-26 = refl; sheet-26 = refl; closed-24 = refl; closed-32 = refl; closed-25 = refl; closed-26 = refl; few-32 = refl; few-25 = refl; few-26 = refl; flat-25 = refl; flat-26 = refl; full-26 = refl; only-26 = refl }
 
 -- Order 28, 21.
@@ -101,12 +101,12 @@ record Abandon : Type 0 where
   only-21 : abandonCall closedFull .number ≡ 21
 
 abandon : Abandon
-unfolding over exceed outside notFinite belowZero lt impossibleWalk abandonCall
+unfolding over exceed beyond notFinite belowZero lt impossibleWalk abandonCall
 abandon = record { only-28 = refl; only-21 = refl }
 
 -- Order 2, 1: an odd length, too few points and too many, all of them beyond the limits.
 list : map (λ n. listCall (replicate n (pos 2001)) .number) (7 ∷ 4 ∷ 2050 ∷ 6 ∷ []) ≡ 2 ∷ 2 ∷ 2 ∷ 1 ∷ []
-unfolding over points outside anyOutside wrongLength listCall
+unfolding over points beyond anyBeyond wrongLength listCall
 list = refl
 
 -- ---- Order 3, 4, 5.

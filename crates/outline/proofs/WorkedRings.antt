@@ -12,7 +12,7 @@ use Rattle.outline.specs.declared.Totals.{Totals}
 use Rattle.outline.specs.declared.Walk.{Walk}
 use Rattle.outline.specs.declared.Sheet.{Sheet}
 use Rattle.outline.specs.EdgeSums.{openEdges, sumOver, zeros, negated, over, exceed}
-use Rattle.outline.specs.ListCall.{outside}
+use Rattle.outline.specs.ListCall.{beyond}
 use Rattle.outline.specs.Pieces.{startAt}
 use Rattle.outline.specs.WalkCalls.{openWalk, sheetOf, newSheet, extended, hasSign, turned, zeroArea, impossibleWalk, impossibleSheet, EndOutcome, refusedEnd, pointCall, endCall}
 use Rattle.outline.specs.CallLists.{ringOf, longestAfter, walkOf}
@@ -44,7 +44,7 @@ record Pond : Type 0 where
   hole : map (λ ps. ended Hole ps newSheet) everyWay ≡ map (λ ps. endedWith newSheet (negated pondTotals) plusZero) everyWay
 
 walked-pond : Pond
-unfolding longestAfter openEdges sumOver over exceed outside hasSign turned zeroArea notFinite belowZero lt impossibleWalk impossibleSheet endCall
+unfolding longestAfter openEdges sumOver over exceed beyond hasSign turned zeroArea notFinite belowZero lt impossibleWalk impossibleSheet endCall
 walked-pond = record { island = refl; hole = refl }
 
 -- ---- 26 looks at the totals as added
@@ -70,7 +70,7 @@ record ByTurn : Type 0 where
   island-below : map (λ ps. ended Island ps nearlyLeast) (clockwise ∷ reverse clockwise ∷ []) ≡ endedWith nearlyLeast square plusZero ∷ endedWith nearlyLeast square plusZero ∷ []
 
 by-turn : ByTurn
-unfolding longestAfter openEdges sumOver over exceed outside hasSign turned zeroArea notFinite belowZero lt impossibleWalk impossibleSheet endCall
+unfolding longestAfter openEdges sumOver over exceed beyond hasSign turned zeroArea notFinite belowZero lt impossibleWalk impossibleSheet endCall
 by-turn = record { island = refl; hole = refl; hole-below = refl; island-below = refl }
 
 -- ---- 32 leaves the walk open and the sheet as it was, and the walk takes more points
@@ -89,11 +89,11 @@ record FigureEight : Type 0 where
   end : endCall longer newSheet ≡ endedWith newSheet (record { a2 = negsuc 1; x6 = negsuc 9; y6 = negsuc 5; xx12 = negsuc 33; xy24 = negsuc 39; yy12 = negsuc 13 }) plusZero
 
 figure-eight : FigureEight
-unfolding longestAfter openEdges sumOver over exceed outside extended hasSign turned zeroArea notFinite belowZero lt impossibleWalk impossibleSheet pointCall endCall
+unfolding longestAfter openEdges sumOver over exceed beyond extended hasSign turned zeroArea notFinite belowZero lt impossibleWalk impossibleSheet pointCall endCall
 figure-eight = record { refused = refl; point = refl; end = refl }
 
 -- ---- an outline and the same as a hole: two outlines on the sheet, and zeros
 
 taken-off : ended Hole pond (ended Island pond newSheet .sheet) .sheet ≡ sheetOf 2 zeros
-unfolding longestAfter openEdges sumOver over exceed outside hasSign turned zeroArea notFinite belowZero lt impossibleWalk impossibleSheet endCall
+unfolding longestAfter openEdges sumOver over exceed beyond hasSign turned zeroArea notFinite belowZero lt impossibleWalk impossibleSheet endCall
 taken-off = refl

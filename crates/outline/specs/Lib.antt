@@ -2,6 +2,7 @@ pub mod EdgeSums
 pub mod ListCall
 pub mod MapCall
 pub mod Pieces
+pub mod OddTerms
 pub mod OtherTerms
 pub mod FixCall
 pub mod WalkCalls

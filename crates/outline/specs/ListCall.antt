@@ -31,13 +31,20 @@ unfoldable pub numbers : List Position → List ℤ
 numbers [] = []
 numbers (p ∷ ps) = p .x ∷ p .y ∷ numbers ps
 
--- Refusal 1: a coordinate is below -2,000 or above 2,000.
-unfoldable pub outside : Position → Bool
-outside p = over 2000 (p .x) || over 2000 (p .y)
+-- A coordinate is below -n or above n: of a point, and of some point of a list.
+unfoldable pub beyond : ℕ → Position → Bool
+beyond n p = over n (p .x) || over n (p .y)
 
-unfoldable pub anyOutside : List Position → Bool
-anyOutside [] = false
-anyOutside (p ∷ ps) = outside p || anyOutside ps
+unfoldable pub anyBeyond : ℕ → List Position → Bool
+anyBeyond n [] = false
+anyBeyond n (p ∷ ps) = beyond n p || anyBeyond n ps
+
+-- Refusal 1: a coordinate is below -2,000 or above 2,000.
+abbrev pub outside : Position → Bool
+outside p = beyond 2000 p
+
+abbrev pub anyOutside : List Position → Bool
+anyOutside ps = anyBeyond 2000 ps
 
 -- Refusal 2: an x is left without its y, or the number of points is not from 3 to 1,024.
 unfoldable pub wrongLength : List ℤ → Bool

@@ -13,7 +13,7 @@ use Rattle.receiver.specs.Floats.{notFinite, belowZero, plusZero}
 use borrow.Author.Tests.{ne-eqb, lt-ltb}
 use Rattle.outline.specs.EdgeSums.{zeros, over, exceed}
 use Rattle.outline.specs.declared.Kind.the-variants.{Hole}
-use Rattle.outline.specs.ListCall.{outside}
+use Rattle.outline.specs.ListCall.{beyond}
 use Rattle.outline.specs.WalkCalls.{origin, openWalk, closed, newSheet, extended, impossibleWalk, impossibleSheet, beginCall, pointCall, endCall}
 use Rattle.text_program.specs.declared.State.{State}
 use Rattle.centroid.specs.Centroid.{outlineCentroidCall}
@@ -55,7 +55,7 @@ not-ended e = absurd (true≢false (sym e))
 -- The run to there, and on. The first line's bytes are taken, and only their number is kept; then there is no room, so nothing is done; then room for one line;
 -- then two lines print nothing, the second of them in two pieces.
 to-waiting : (p : Place) (out : List ℕ) → Run p (waiting .state) newSheet (69 ∷ []) [] out → Run p start newSheet [] input (text ("R 1 9" ∷ []) ++ out)
-unfolding over exceed outside extended notFinite belowZero lt impossibleWalk beginCall pointCall allDigits valueFrom leadingZero isNatural naturalOf numberOf withFirst fields isByte letterOf pointOf formOfFields formOf lineLength digits decimal signed refusalLine carriedWalk carryOut lineStep step steps feedCall
+unfolding over exceed beyond extended notFinite belowZero lt impossibleWalk beginCall pointCall allDigits valueFrom leadingZero isNatural naturalOf numberOf withFirst fields isByte letterOf pointOf formOfFields formOf lineLength digits decimal signed refusalLine carriedWalk carryOut lineStep step steps feedCall
 to-waiting p out run =
     reads firstPiece
     (feeds false 192 _ not-ended refl
@@ -76,7 +76,7 @@ finished = record { state = record { lines = 4; bytes = 45; gone = 0; ended = tr
 
 -- The input has ended: E is refused, and the next call writes S.
 to-finished : Run finished (waiting .state) newSheet (69 ∷ []) [] (text ("R 4 24" ∷ "S 0 0 0 0 0 0 0 - -" ∷ []))
-unfolding over exceed outside notFinite belowZero lt impossibleWalk impossibleSheet endCall outlineCentroidCall withFirst fields isByte letterOf formOfFields formOf lineLength digits decimal signed totalsText centreText refusalLine sheetLine carriedEnd carryOut lineStep step steps feedCall
+unfolding over exceed beyond notFinite belowZero lt impossibleWalk impossibleSheet endCall outlineCentroidCall withFirst fields isByte letterOf formOfFields formOf lineLength digits decimal signed totalsText centreText refusalLine sheetLine carriedEnd carryOut lineStep step steps feedCall
 to-finished = feeds true 192 _ (λ e. refl) refl (feeds true 192 _ (λ e. refl) refl here)
 
 pub in-pieces : text ("R 1 9" ∷ "R 4 24" ∷ "S 0 0 0 0 0 0 0 - -" ∷ []) ≡ program input

@@ -11,7 +11,7 @@ use Rattle.outline.specs.declared.Totals.{Totals}
 use Rattle.outline.specs.declared.Kind.the-variants.{Hole}
 use Rattle.outline.specs.declared.Sheet.{Sheet}
 use Rattle.outline.specs.EdgeSums.{negated, openEdges, edges, sumOver, over, exceed}
-use Rattle.outline.specs.ListCall.{points, numbers, outside, anyOutside, wrongLength, listCall}
+use Rattle.outline.specs.ListCall.{points, numbers, beyond, anyBeyond, wrongLength, listCall}
 use Rattle.outline.specs.WalkCalls.{closed, newSheet, extended, hasSign, turned, zeroArea, impossibleWalk, impossibleSheet, beginCall, pointCall, endCall}
 use Rattle.outline.specs.CallLists as Calls
 use Rattle.outline.specs.CallLists.{Trace, from, numberOf, walkAfter, ringWith, next}
@@ -37,7 +37,7 @@ abbrev ones : Totals
 ones = record { a2 = pos 1; x6 = pos 1; y6 = pos 1; xx12 = pos 1; xy24 = pos 1; yy12 = pos 1 }
 
 by-cases : Output (from closed) newSheet (linesFrom 0 0 [] input) output
-unfolding openEdges edges sumOver over exceed points numbers outside anyOutside wrongLength listCall extended hasSign turned zeroArea notFinite belowZero lt impossibleWalk impossibleSheet beginCall pointCall endCall numberOf walkAfter ringWith next roundsTo firstRounded roundHalfUp signedBy outlineCentroidCall allDigits valueFrom leadingZero isNatural naturalOf Numbers.numberOf withFirst fields isByte letterOf pointOf formOfFields formOf digits decimal signed totalsText centreText outlineLine refusalLine sheetLine linesFrom tooFar callOf isEnd
+unfolding openEdges edges sumOver over exceed points numbers beyond anyBeyond wrongLength listCall extended hasSign turned zeroArea notFinite belowZero lt impossibleWalk impossibleSheet beginCall pointCall endCall numberOf walkAfter ringWith next roundsTo firstRounded roundHalfUp signedBy outlineCentroidCall allDigits valueFrom leadingZero isNatural naturalOf Numbers.numberOf withFirst fields isByte letterOf pointOf formOfFields formOf digits decimal signed totalsText centreText outlineLine refusalLine sheetLine linesFrom tooFar callOf isEnd
 by-cases =
     near _ _ refl (silent (Calls.begin Hole) refl (not-end (begin Hole) refl) refl)
     (near _ _ refl (silent (Calls.point (record { x = pos 0; y = pos 0 })) refl (not-end (point (pos 0) (pos 0)) refl) refl)

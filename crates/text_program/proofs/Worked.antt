@@ -12,7 +12,7 @@ use lib.Ieee.{lt}
 use Rattle.receiver.specs.Floats.{notFinite, belowZero}
 use Rattle.outline.specs.declared.Totals.{Totals}
 use Rattle.outline.specs.EdgeSums.{over, exceed}
-use Rattle.outline.specs.ListCall.{outside}
+use Rattle.outline.specs.ListCall.{beyond}
 use Rattle.outline.specs.WalkCalls.{extended, hasSign, turned, zeroArea, impossibleWalk, impossibleSheet, beginCall, pointCall, endCall}
 use Rattle.integers.specs.Rounding.{roundsTo}
 use Rattle.centroid.specs.Centroid.{signedBy, outlineCentroidCall}
@@ -72,7 +72,7 @@ abbrev withFivePoints : Totals
 withFivePoints = totals (pos 82) (pos 1210) (pos 966) (pos 14754) (pos 21160) (pos 8974)
 
 pub listing-output : (program (text listing) ≡ text listed) × (program (text (listing ++ "E" ∷ [])) ≡ text ended)
-unfolding over exceed outside extended hasSign turned zeroArea notFinite belowZero lt impossibleWalk impossibleSheet beginCall pointCall endCall roundsTo signedBy outlineCentroidCall allDigits valueFrom leadingZero isNatural naturalOf numberOf withFirst fields isByte letterOf pointOf formOfFields formOf digits decimal signed totalsText outlineLine refusalLine sheetLine linesFrom tooFar carriedWalk carriedEnd carryOut outputOf program
+unfolding over exceed beyond extended hasSign turned zeroArea notFinite belowZero lt impossibleWalk impossibleSheet beginCall pointCall endCall roundsTo signedBy outlineCentroidCall allDigits valueFrom leadingZero isNatural naturalOf numberOf withFirst fields isByte letterOf pointOf formOfFields formOf digits decimal signed totalsText outlineLine refusalLine sheetLine linesFrom tooFar carriedWalk carriedEnd carryOut outputOf program
 listing-output =
     let first = figures rectangle (pos 5) (pos 4) refl refl refl in
     let second = figures fivePoints (pos 2) (pos 1) refl refl refl in

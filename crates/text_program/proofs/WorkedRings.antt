@@ -7,7 +7,7 @@ use lib.Ieee.{lt}
 use Rattle.receiver.specs.Floats.{notFinite, belowZero}
 use Rattle.outline.specs.declared.Totals.{Totals}
 use Rattle.outline.specs.EdgeSums.{negated, over, exceed}
-use Rattle.outline.specs.ListCall.{outside}
+use Rattle.outline.specs.ListCall.{beyond}
 use Rattle.outline.specs.WalkCalls.{sheetOf, extended, hasSign, turned, zeroArea, impossibleWalk, impossibleSheet, beginCall, pointCall, endCall}
 use Rattle.integers.specs.Rounding.{roundsTo}
 use Rattle.centroid.specs.Centroid.{signedBy, outlineCentroidCall}
@@ -47,7 +47,7 @@ abbrev clockwise : List String
 clockwise = "B" ∷ "P 0 4" ∷ "P 8 8" ∷ "P 10 4" ∷ "P 2 0" ∷ "E" ∷ "B H" ∷ "P 5 5" ∷ "P 6 3" ∷ "P 4 2" ∷ "E" ∷ []
 
 pub either-way : (program (text anticlockwise) ≡ text printed) × (program (text clockwise) ≡ text printed)
-unfolding over exceed outside extended hasSign turned zeroArea notFinite belowZero lt impossibleWalk impossibleSheet beginCall pointCall endCall allDigits valueFrom leadingZero isNatural naturalOf numberOf withFirst fields isByte letterOf pointOf formOfFields formOf linesFrom tooFar carriedWalk carriedEnd carryOut outputOf program
+unfolding over exceed beyond extended hasSign turned zeroArea notFinite belowZero lt impossibleWalk impossibleSheet beginCall pointCall endCall allDigits valueFrom leadingZero isNatural naturalOf numberOf withFirst fields isByte letterOf pointOf formOfFields formOf linesFrom tooFar carriedWalk carriedEnd carryOut outputOf program
 either-way = (their-text, their-text)
 
 -- ---- the rectangle, and the same as a hole
@@ -57,7 +57,7 @@ abbrev twice : List String
 twice = "B" ∷ "B H" ∷ "P 2 0" ∷ "P 10 4" ∷ "P 8 8" ∷ "P 0 4" ∷ "E" ∷ "B H" ∷ "B" ∷ "P 2 0" ∷ "P 10 4" ∷ "P 8 8" ∷ "P 0 4" ∷ "E" ∷ []
 
 pub no-area-left : program (text twice) ≡ text ("R 2 22" ∷ "O 1 4 80 1200 960 14720 21120 8960 5 4" ∷ "R 9 22" ∷ "O 2 4 -80 -1200 -960 -14720 -21120 -8960 5 4" ∷ "S 2 0 0 0 0 0 0 - -" ∷ [])
-unfolding over exceed outside extended hasSign turned zeroArea notFinite belowZero lt impossibleWalk impossibleSheet beginCall pointCall endCall roundsTo signedBy outlineCentroidCall allDigits valueFrom leadingZero isNatural naturalOf numberOf withFirst fields isByte letterOf pointOf formOfFields formOf digits decimal signed totalsText centreText outlineLine refusalLine sheetLine linesFrom tooFar carriedWalk carriedEnd carryOut outputOf program
+unfolding over exceed beyond extended hasSign turned zeroArea notFinite belowZero lt impossibleWalk impossibleSheet beginCall pointCall endCall roundsTo signedBy outlineCentroidCall allDigits valueFrom leadingZero isNatural naturalOf numberOf withFirst fields isByte letterOf pointOf formOfFields formOf digits decimal signed totalsText centreText outlineLine refusalLine sheetLine linesFrom tooFar carriedWalk carriedEnd carryOut outputOf program
 no-area-left =
     let first = figures rectangle (pos 5) (pos 4) refl refl refl in
     let second = figures (negated rectangle) (pos 5) (pos 4) refl refl refl in

@@ -9,7 +9,7 @@ use lib.IntN.{ℤ, pos, negℤ, natAbs}
 use lib.ListN.{length}
 use Rattle.outline.specs.declared.Position.{Position}
 use Rattle.outline.specs.EdgeSums.{zeros, negated, over}
-use Rattle.outline.specs.ListCall.{points, outside, anyOutside, wrongLength, listCall}
+use Rattle.outline.specs.ListCall.{points, beyond, anyBeyond, wrongLength, listCall}
 use Rattle.two_walks.specs.declared.Figures.{Figures}
 use Rattle.two_walks.specs.Distances.{squaredDistance, squaredHausdorff}
 use Rattle.two_walks.specs.Comparison.{comparisonNumber, FiguresOutcome, figuresCall, partOf, Lent, handedBack}
@@ -191,7 +191,7 @@ triangle-among = no-distance (points triangle) (points rectangle) (omega arith) 
 
 -- Refused in one order, refused in the other, and with nothing else.
 refused-exchanged : comparisonNumber odd far ≢ 0
-unfolding over points outside anyOutside wrongLength listCall comparisonNumber
+unfolding over points beyond anyBeyond wrongLength listCall comparisonNumber
 refused-exchanged = refused-both-ways far odd (λ e. omega (arith, e))
 
 refused-with-nothing : figuresCall odd far .figures ≡ record { differences = zeros; forward = 0; backward = 0 }

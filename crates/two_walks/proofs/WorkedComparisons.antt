@@ -7,7 +7,7 @@ use lib.IntN.{ℤ, pos, negsuc}
 use denote.Ref.{RefT, ptr, now}
 use Rattle.outline.specs.declared.Totals.{Totals}
 use Rattle.outline.specs.EdgeSums.{openEdges, edges, sumOver, over}
-use Rattle.outline.specs.ListCall.{points, outside, anyOutside, wrongLength, listCall}
+use Rattle.outline.specs.ListCall.{points, beyond, anyBeyond, wrongLength, listCall}
 use Rattle.outline.proofs.WorkedInputs.{at}
 use Rattle.two_walks.specs.Distances.{squaredDistance, leastOf, greatestOf, toNearest, squaredHausdorff}
 use Rattle.two_walks.specs.Comparison.{comparisonNumber, FiguresOutcome, figuresCall, partOf, Lent, lent, handedBack, comparisonCall}
@@ -42,7 +42,7 @@ pub record Walkers : Type 0 where
   pub part-itself : partOf again again ≡ record { ofSecond = false; numbers = again }
 
 pub worked-walkers : Walkers
-unfolding over openEdges edges sumOver points outside anyOutside wrongLength listCall squaredDistance leastOf greatestOf toNearest squaredHausdorff comparisonNumber figuresCall partOf
+unfolding over openEdges edges sumOver points beyond anyBeyond wrongLength listCall squaredDistance leastOf greatestOf toNearest squaredHausdorff comparisonNumber figuresCall partOf
 worked-walkers = record { figures = refl; part = refl; figures-exchanged = refl; part-exchanged = refl; figures-itself = refl; part-itself = refl }
 
 -- ---- distances
@@ -77,7 +77,7 @@ record Distances : Type 0 where
   other-opposite : figuresCall (corner (negsuc 1999) (pos 2000)) (corner (pos 2000) (negsuc 1999)) ≡ answered noTotals 32_000_000 32_000_000
 
 worked-distances : Distances
-unfolding squaredDistance leastOf greatestOf toNearest squaredHausdorff over openEdges edges sumOver points outside anyOutside wrongLength listCall comparisonNumber figuresCall
+unfolding squaredDistance leastOf greatestOf toNearest squaredHausdorff over openEdges edges sumOver points beyond anyBeyond wrongLength listCall comparisonNumber figuresCall
 worked-distances = record { points-apart = refl; least = refl; greatest = refl; another-start = refl; one-way = refl; all-moved = refl; opposite = refl; other-opposite = refl }
 
 -- ---- refusals
@@ -116,7 +116,7 @@ record Refusals : Type 0 where
   none-none : RefusedWith 2 [] []
 
 worked-refusals : Refusals
-unfolding over openEdges edges sumOver points outside anyOutside wrongLength listCall squaredDistance leastOf greatestOf toNearest squaredHausdorff comparisonNumber figuresCall partOf
+unfolding over openEdges edges sumOver points beyond anyBeyond wrongLength listCall squaredDistance leastOf greatestOf toNearest squaredHausdorff comparisonNumber figuresCall partOf
 worked-refusals =
     record {
       far-odd = record { figures = refl; part = refl };
@@ -162,7 +162,7 @@ record Placed : Type 0 where
   whole-refused : comparisonCall (here rectangle) (there odd) ≡ record { figures = record { number = 2; figures = record { differences = noTotals; forward = 0; backward = 0 } }; part = here [] }
 
 worked-places : Placed
-unfolding over openEdges edges sumOver points outside anyOutside wrongLength listCall squaredDistance leastOf greatestOf toNearest squaredHausdorff comparisonNumber figuresCall partOf handedBack comparisonCall
+unfolding over openEdges edges sumOver points beyond anyBeyond wrongLength listCall squaredDistance leastOf greatestOf toNearest squaredHausdorff comparisonNumber figuresCall partOf handedBack comparisonCall
 worked-places =
     record {
       longer-second = refl;

@@ -7,7 +7,7 @@ use mathlib.Core.List.{List, [], _∷_, zipWith}
 use lib.IntN.{ℤ, pos, negℤ, natAbs, _+ℤ_, _*ℤ_}
 use lib.Signed.{ltZ}
 use Rattle.outline.specs.EdgeSums.{Term, a2, openEdges, edges, sumOver, over}
-use Rattle.outline.specs.ListCall.{points, numbers, outside, anyOutside, wrongLength, listCall}
+use Rattle.outline.specs.ListCall.{points, numbers, beyond, anyBeyond, wrongLength, listCall}
 use Rattle.outline.specs.MapCall.{brackets}
 use Rattle.outline.specs.Pieces.{totalsOf}
 use Rattle.outline.specs.declared.Position.{Position}
@@ -45,7 +45,7 @@ record Mistaken : Type 0 where
   without-d : (brackets mirror (totalsOf unitSquare) .xx12 ≡ pos 4) × (brackets mirror (totalsOf unitSquare) .yy12 ≡ pos 4)
 
 mistaken : Mistaken
-unfolding openEdges edges sumOver over points numbers outside anyOutside wrongLength listCall
+unfolding openEdges edges sumOver over points numbers beyond anyBeyond wrongLength listCall
 mistaken =
     record {
       closing-edge-left-out = refl;

@@ -4,7 +4,7 @@ use lib.Ieee.{lt}
 use Rattle.integers.specs.Search.{firstWhere}
 use Rattle.receiver.specs.Floats.{notFinite, belowZero}
 use Rattle.outline.specs.EdgeSums.{openEdges, edges, sumOver, over, exceed}
-use Rattle.outline.specs.ListCall.{points, numbers, outside, anyOutside, wrongLength, listCall}
+use Rattle.outline.specs.ListCall.{points, numbers, beyond, anyBeyond, wrongLength, listCall}
 use Rattle.outline.specs.MapCall.{disallowed, mapCall}
 use Rattle.outline.specs.Pieces.{neighbours, canCut, cutOnce, cutAll}
 use Rattle.outline.specs.WalkCalls.{extended, hasSign, turned, zeroArea, impossibleWalk, impossibleSheet, beginCall, pointCall, endCall}
@@ -22,22 +22,22 @@ use Rattle.worked_rows.specs.Rows.{holds, rows, ringRows, walkRows, move
 use Rattle.worked_rows.specs.RunRows.{mendedRows}
 
 pub worked : All holds rows
-unfolding openEdges edges sumOver over exceed points numbers outside anyOutside wrongLength listCall disallowed mapCall neighbours canCut cutOnce cutAll roundsTo firstRounded roundHalfUp signedBy outlineCentroidCall cellsFrom cellsOf allCells sumsOver groundOf badRun anyBad disordered tooMany regionCall holds
+unfolding openEdges edges sumOver over exceed points numbers beyond anyBeyond wrongLength listCall disallowed mapCall neighbours canCut cutOnce cutAll roundsTo firstRounded roundHalfUp signedBy outlineCentroidCall cellsFrom cellsOf allCells sumsOver groundOf badRun anyBad disordered tooMany regionCall holds
 worked = (refl, (refl, (refl, (refl, (refl, (refl, (refl, (refl, (refl, (refl, (refl, (refl, (refl, tt)))))))))))))
 
 -- The rings of document 02, CR 3.
 pub ring-rows : All holds ringRows
-unfolding over exceed outside extended hasSign turned zeroArea notFinite belowZero lt impossibleWalk impossibleSheet beginCall pointCall endCall numberOf walkAfter ringWith next after sheetAfter holds
+unfolding over exceed beyond extended hasSign turned zeroArea notFinite belowZero lt impossibleWalk impossibleSheet beginCall pointCall endCall numberOf walkAfter ringWith next after sheetAfter holds
 ring-rows = (refl, (refl, (refl, (refl, (refl, (refl, (refl, (refl, (refl, (refl, (refl, tt)))))))))))
 
 -- The two walkers of document 02, CR 5.
 pub walk-rows : All holds walkRows
-unfolding openEdges edges sumOver over points numbers outside anyOutside wrongLength listCall squaredDistance leastOf greatestOf toNearest squaredHausdorff comparisonNumber figuresCall partOf holds
+unfolding openEdges edges sumOver over points numbers beyond anyBeyond wrongLength listCall squaredDistance leastOf greatestOf toNearest squaredHausdorff comparisonNumber figuresCall partOf holds
 walk-rows = (refl, (refl, (refl, (refl, (refl, (refl, (refl, (refl, (refl, (refl, tt))))))))))
 
 -- The moves of document 02, CR 7.
 pub move-rows : All holds moveRows
-unfolding openEdges edges sumOver over exceed points numbers outside anyOutside wrongLength listCall disallowed mapCall roundsTo firstRounded roundHalfUp signedBy outlineCentroidCall holds
+unfolding openEdges edges sumOver over exceed points numbers beyond anyBeyond wrongLength listCall disallowed mapCall roundsTo firstRounded roundHalfUp signedBy outlineCentroidCall holds
 move-rows = (refl, (refl, (refl, (refl, (refl, (refl, (refl, (refl, (refl, (refl, tt))))))))))
 
 -- The mended list of document 02, CR 8.
@@ -47,5 +47,5 @@ mended-rows = (refl, (refl, (refl, (refl, (refl, (refl, tt))))))
 
 -- The rows for "Errors a surveyor would not notice".
 pub error-rows : All holds errorRows
-unfolding openEdges edges sumOver over exceed points numbers outside anyOutside wrongLength listCall disallowed mapCall roundsTo firstRounded roundHalfUp signedBy outlineCentroidCall cellsFrom cellsOf allCells sumsOver groundOf badRun anyBad liesAfter disordered tooMany regionCall squaredDistance leastOf greatestOf toNearest squaredHausdorff comparisonNumber figuresCall holds
+unfolding openEdges edges sumOver over exceed points numbers beyond anyBeyond wrongLength listCall disallowed mapCall roundsTo firstRounded roundHalfUp signedBy outlineCentroidCall cellsFrom cellsOf allCells sumsOver groundOf badRun anyBad liesAfter disordered tooMany regionCall squaredDistance leastOf greatestOf toNearest squaredHausdorff comparisonNumber figuresCall holds
 error-rows = (refl, (refl, (refl, (refl, (refl, (refl, (refl, (refl, tt))))))))

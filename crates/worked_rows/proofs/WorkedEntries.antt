@@ -5,7 +5,7 @@ use lib.Ieee.{lt, odd, ofFields, ofBits}
 use Rattle.integers.specs.Rounding.{roundsTo, firstRounded, roundHalfUp}
 use Rattle.receiver.specs.Floats.{notFinite, rounded, belowZero}
 use Rattle.outline.specs.EdgeSums.{over, exceed}
-use Rattle.outline.specs.ListCall.{outside}
+use Rattle.outline.specs.ListCall.{beyond}
 use Rattle.outline.specs.FixCall.{fixNotFinite}
 use Rattle.outline.specs.WalkCalls.{extended, hasSign, turned, zeroArea, impossibleWalk, impossibleSheet, beginCall, pointCall, endCall}
 use Rattle.outline.specs.EntryCalls.{longer, fixCall, outageCall, entryCall}
@@ -14,5 +14,5 @@ use Rattle.outline.proofs.Every.{All}
 use Rattle.worked_rows.specs.EntryRows.{Holds, entryRows}
 
 pub entry-rows : All Holds entryRows
-unfolding trailingZeros odd ofFields ofBits lt roundsTo firstRounded roundHalfUp notFinite rounded belowZero over exceed outside fixNotFinite extended hasSign turned zeroArea impossibleWalk impossibleSheet beginCall pointCall endCall longer fixCall outageCall entryCall numberOf walkAfter ringWith next after
+unfolding trailingZeros odd ofFields ofBits lt roundsTo firstRounded roundHalfUp notFinite rounded belowZero over exceed beyond fixNotFinite extended hasSign turned zeroArea impossibleWalk impossibleSheet beginCall pointCall endCall longer fixCall outageCall entryCall numberOf walkAfter ringWith next after
 entry-rows = (record { numbers = refl; ended = refl; totals = refl; outage = refl }, (record { numbers = refl; ended = refl; totals = refl; outage = refl }, (record { numbers = refl; ended = refl; totals = refl; outage = refl }, (record { numbers = refl; ended = refl; totals = refl; outage = refl }, tt))))

@@ -6,7 +6,7 @@ use mir.Syntax.{w32}
 use mir.Val.{SFits}
 use Rattle.integers.proofs.Flags.{tells, of-field}
 use Rattle.outline.specs.EdgeSums.{over}
-use Rattle.outline.specs.ListCall.{outside}
+use Rattle.outline.specs.ListCall.{beyond}
 use Rattle.limits.proofs.position_outside.Statement.{statement}
 use Rattle.limits.proofs.position_outside.Tie as tie
 
@@ -21,11 +21,11 @@ asked-x : (c : tie.After-coordinate-outside) → c .coordinate-outside .result �
 asked-x c = of-field (over 2000) _ (c .coordinate-outside .ensures) (toZ-ofZ (fits-x (c .before .before)))
 
 returns : tie.Need-returns
-unfolding outside
+unfolding beyond
 returns c = rw (tells (asked-x (c .before)) (c .if1 .taken))
 
 returns-2 : tie.Need-returns-2
-unfolding outside
+unfolding beyond
 returns-2 c =
     let not-x = c .before .before in
     let at-x = not-x .before in

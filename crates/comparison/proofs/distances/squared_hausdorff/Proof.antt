@@ -51,7 +51,7 @@ to-nearest-requires : tie.Need-to-nearest-requires Inv-loop μ-loop
 to-nearest-requires c κs =
     let looped = c .before .before in
     let s = looped .before in
-    (s .pre .1 .0, (s .pre .1 .1, point-inside (from-points s) (looped .loop .k) (s .pre .0) (omega (arith, length-points (s .args .from .now))) (c .position-at .ensures)))
+    (s .pre .1 .0, (s .pre .1 .1, point-inside 2000 (from-points s) (looped .loop .k) (s .pre .0) (omega (arith, length-points (s .args .from .now))) (c .position-at .ensures)))
 
 greater-requires : tie.Need-greater-requires Inv-loop μ-loop
 greater-requires c κs = search needs

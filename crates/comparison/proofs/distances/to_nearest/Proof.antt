@@ -37,7 +37,7 @@ position-at-requires : tie.Need-position-at-requires Inv-loop μ-loop
 position-at-requires c κs = search needs
 
 squared-distance-requires : tie.Need-squared-distance-requires Inv-loop μ-loop
-squared-distance-requires c κs = (c .before .pre .1 .1, point-inside (points-of (c .before)) 0 (c .before .pre .1 .0) (c .before .pre .0) (c .position-at .ensures))
+squared-distance-requires c κs = (c .before .pre .1 .1, point-inside 2000 (points-of (c .before)) 0 (c .before .pre .1 .0) (c .before .pre .0) (c .position-at .ensures))
 
 loop-holds : tie.Need-loop-holds Inv-loop μ-loop
 loop-holds c =
@@ -52,7 +52,7 @@ squared-distance-requires-2 : tie.Need-squared-distance-requires-2 Inv-loop μ-l
 squared-distance-requires-2 c κs =
     let looped = c .before .before in
     let s = looped .before .before .before in
-    (s .pre .1 .1, point-inside (points-of s) (looped .loop .k) (s .pre .1 .0) (omega (arith, length-points (s .args .points .now))) (c .position-at2 .ensures))
+    (s .pre .1 .1, point-inside 2000 (points-of s) (looped .loop .k) (s .pre .1 .0) (omega (arith, length-points (s .args .points .now))) (c .position-at2 .ensures))
 
 lesser-requires : tie.Need-lesser-requires Inv-loop μ-loop
 lesser-requires c κs = search needs

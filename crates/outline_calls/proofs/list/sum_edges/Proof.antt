@@ -1,5 +1,5 @@
 -- `outline_calls::list::sum_edges` meets its contract. The invariant: the open edges of the first k points are summed.
-use mathlib.Core.Path.{_≡_, sym, _∙_}
+use mathlib.Core.Path.{_≡_, refl, sym, _∙_}
 use mathlib.Core.List.{List}
 use Prim.Native.Nat.{ℕ, _/_, _-_, _<_, _≤_}
 use native.Mathlib.Omega.{arith}
@@ -8,23 +8,18 @@ use lib.IntN.{ℤ}
 use lib.ListN.{length, getD, take}
 use Rattle.outline.specs.declared.Position.{Position}
 use Rattle.outline.specs.declared.Totals.{Totals}
-use Rattle.outline.specs.EdgeSums.{openEdges, totalsOver}
+use Rattle.outline.specs.EdgeSums.{six, openEdges, totalsOver, plus}
 use Rattle.outline.specs.ListCall.{points as pointsOf}
 use Rattle.outline.specs.WalkCalls.{origin}
 use Rattle.outline.proofs.IndexLaws.{length-points}
 use Rattle.outline.proofs.Limits.{OutlineList, point-inside}
-use Rattle.outline_calls.proofs.ListSteps.{outline-list, sum-within, no-edges, edges-next, edges-closed}
+use Rattle.outline.proofs.EdgeSteps.{Summed, summed-first, summed-next, summed-closed}
+use Rattle.outline_calls.proofs.ListSteps.{outline-list, sum-within}
 use Rattle.outline_calls.proofs.list.sum_edges.Statement.{statement}
 use Rattle.outline_calls.proofs.list.sum_edges.Tie as tie
 
--- Of the points ps, the first k are walked.
-record Summed (ps : List Position) (sum : Totals) (k : ℕ) : Type 0 where
-  is : sum ≡ totalsOver (openEdges (take k ps))
-  some : 0 < k
-  most : k ≤ length ps
-
 abbrev Inv-loop : tie.InvT-loop
-Inv-loop points n sum₀ k₀ sum k = Summed (pointsOf points) sum k
+Inv-loop points n sum₀ k₀ sum k = Summed six plus (λ f g. refl) (pointsOf points) sum k
 
 abbrev μ-loop : tie.MeasureT-loop
 μ-loop points n sum₀ k₀ sum k = n - k
@@ -37,7 +32,7 @@ accepted : (s : tie.Start Inv-loop μ-loop) → OutlineList (numbers s)
 accepted s = outline-list (numbers s) (s .pre .0) (s .pre .1)
 
 loop-holds : tie.Need-loop-holds Inv-loop μ-loop
-loop-holds c = let enough = accepted c .outline .enough in record { is = no-edges (pointsOf (numbers c)); some = omega arith; most = omega arith }
+loop-holds c = let enough = accepted c .outline .enough in summed-first six plus (λ f g. refl) (pointsOf (numbers c)) (omega arith)
 
 sub-position-at : tie.Need-sub-position-at Inv-loop μ-loop
 sub-position-at c = let some = c .before .loop .inv .some in omega arith
@@ -49,7 +44,7 @@ add-edge-requires c κs =
     let zs = numbers s in
     let at = looped .loop in
     let few = length-points zs in
-    (sum-within zs (at .k) (accepted s) (at .inv .most) (at .inv .is), (point-inside (pointsOf zs) (at .k - 1) (s .pre .1) (omega arith) (c .before .position-at .ensures), point-inside (pointsOf zs) (at .k) (s .pre .1) (omega arith) (c .position-at2 .ensures)))
+    (sum-within zs (at .k) (accepted s) (at .inv .most) (at .inv .is), (point-inside 2000 (pointsOf zs) (at .k - 1) (s .pre .1) (omega arith) (c .before .position-at .ensures), point-inside 2000 (pointsOf zs) (at .k) (s .pre .1) (omega arith) (c .position-at2 .ensures)))
 
 add-k : tie.Need-add-k Inv-loop μ-loop
 add-k c = omega arith
@@ -64,11 +59,7 @@ loop-again c =
     let zs = numbers (looped .before) in
     let at = looped .loop in
     let few = length-points zs in
-    record {
-      is = edges-next (pointsOf zs) (at .k) (at .inv .some) (omega arith) (ended .before .position-at .ensures) (ended .position-at2 .ensures) (at .inv .is) (c .add-edge .ensures);
-      some = omega arith;
-      most = omega arith;
-    }
+    summed-next six plus (λ f g. refl) (pointsOf zs) (at .k) (at .inv) (omega arith) (ended .before .position-at .ensures) (ended .position-at2 .ensures) (c .add-edge .ensures)
 
 sub-position-at-2 : tie.Need-sub-position-at-2 Inv-loop μ-loop
 sub-position-at-2 c =
@@ -91,7 +82,7 @@ add-edge-requires-2 c κs =
     let zs = numbers s in
     let at = looped .loop in
     let enough = accepted s .outline .enough in
-    (sum-within zs (at .k) (accepted s) (at .inv .most) (at .inv .is), (point-inside (pointsOf zs) (at .k - 1) (s .pre .1) (omega (arith, at .inv .most, at .inv .some)) (last-is (c .before)), point-inside (pointsOf zs) 0 (s .pre .1) (omega arith) (c .position-at4 .ensures)))
+    (sum-within zs (at .k) (accepted s) (at .inv .most) (at .inv .is), (point-inside 2000 (pointsOf zs) (at .k - 1) (s .pre .1) (omega (arith, at .inv .most, at .inv .some)) (last-is (c .before)), point-inside 2000 (pointsOf zs) 0 (s .pre .1) (omega arith) (c .position-at4 .ensures)))
 
 returns : tie.Need-returns Inv-loop μ-loop
 returns c =
@@ -99,7 +90,7 @@ returns c =
     let looped = ended .before .before .before in
     let zs = numbers (looped .before) in
     let at = looped .loop in
-    edges-closed (pointsOf zs) (at .k) (at .inv .some) (whole (ended .before .before) ∙ sym (length-points zs)) (last-is (ended .before)) (ended .position-at4 .ensures) (at .inv .is) (c .add-edge2 .ensures)
+    summed-closed six plus (λ f g. refl) (pointsOf zs) (at .k) (at .inv) (whole (ended .before .before) ∙ sym (length-points zs)) (last-is (ended .before)) (ended .position-at4 .ensures) (c .add-edge2 .ensures)
 
 pub sum-edges-spec : {M : Type 1} → statement M
 sum-edges-spec =
