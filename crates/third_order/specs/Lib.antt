@@ -1,0 +1,5 @@
+pub mod ThirdTerms
+pub mod ThirdCall
+pub mod ThirdPieces
+pub mod ThirdLaws
+pub mod FormulaEleven
