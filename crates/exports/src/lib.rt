@@ -1,6 +1,6 @@
 // Calls for programs in other languages: the static library defines each under its plain name. A number passes as itself, a list or a buffer as a pointer and then a
 // length. Each answers 0; or the number of a refusal, with zeros for its values; or 100 where the buffer is too short. Thin: the calls on one
-// outline hand on to outline_replies, mavrihkel_compare_walks to comparison_replies, mavrihkel_fix_point to fix_replies, and mavrihkel_mask_totals to mask_replies; mavrihkel_region_totals asks cells and has region_replies write the answer,
+// outline hand on to outline_replies, mavrihkel_compare_walks to comparison_replies, mavrihkel_third_moments to third_replies, mavrihkel_fix_point to fix_replies, and mavrihkel_mask_totals to mask_replies; mavrihkel_region_totals asks cells and has region_replies write the answer,
 // and mavrihkel_mask_runs asks masks and has mask_replies write it. Since document 02, CR 2, cells have the totals of their ground: the names of before,
 // mavrihkel_region_sums and mavrihkel_mask_sums, are not used again, so that an old program fails to link instead of reading other figures.
 ghost use mathlib.Core.Path.{_≡_};
@@ -10,6 +10,8 @@ ghost use Rattle.centroid.specs.Centroid.{outlineCentroidCall};
 ghost use Rattle.outline_replies.specs.OutlineReply.{totalsReply, centreReply};
 ghost use Rattle.two_walks.specs.Comparison.{figuresCall, partOf};
 ghost use Rattle.comparison_replies.specs.ComparisonReply.{comparisonReply};
+ghost use Rattle.third_order.specs.ThirdCall.{thirdCall};
+ghost use Rattle.third_replies.specs.ThirdReply.{thirdReply};
 ghost use Rattle.outline.specs.FixCall.{fixPointCall};
 ghost use Rattle.fix_replies.specs.FixReply.{fixReply};
 ghost use Rattle.cells.specs.RegionCall.{regionCall};
@@ -95,6 +97,14 @@ pub extern "C" fn mavrihkel_compare_walks<'a>(
     ensures { λ r. ⌜ record { number = r; buffer = now (out .exit) } ≡ comparisonReply (figuresCall (now (first .entry)) (now (second .entry))) (partOf (now (first .entry)) (now (second .entry))) (now (out .entry)) ⌝ }
 {
     comparison_replies::compare_walks_reply(first, second, out)
+}
+
+// The third moments of a whole outline, x and y in turn: 0, 2, 1 or 35, and the four totals by falling power of x.
+#[no_mangle]
+pub extern "C" fn mavrihkel_third_moments(points: &[i32], out: &mut [i64]) -> u32
+    ensures { λ r. ⌜ record { number = r; buffer = now (out .exit) } ≡ thirdReply (thirdCall (now (points .entry))) (now (out .entry)) ⌝ }
+{
+    third_replies::third_moments_reply(points, out)
 }
 
 // The point of a receiver's fix, east and north of the peg in decimetres: 0, 33 or 1, and the point's x and y.
