@@ -2,7 +2,8 @@
 and holes as CR 3 of document 02 has them, the walk's longest outage as CR 9 has it.
 
 Maps and cuts are in moves.py, cells in cells.py, two walkers in walkers.py, a receiver's
-entries in receiver.py.  Whole numbers only: an outage stands by the bits of its float.
+entries in receiver.py, third moments in third_moments.py.  Whole numbers only: an outage
+stands by the bits of its float.
 Every call answers a refusal number first; 0 means that the call was accepted.  A refused
 call answers zeros and changes nothing.
 """

@@ -1,6 +1,6 @@
 """Input from a seeded generator for the text program: valid, damaged and mixed."""
 from inputs import HOLE, ISLAND, LISTING, ODD_LINES, SQUARE, joined, outline_lines, point_line
-from moves import walked_backwards
+from moves import Cut, walked_backwards
 
 BYTES_TO_PUT_IN = b"\n\n\n\t\t\r\x00\xff\x80\xb2BEAPHbeph 0123456789-+.:/"
 
@@ -9,6 +9,12 @@ def random_points(rng, reach, least, most):
     """Between the least and the most number of points, each coordinate at most the reach from 0."""
     return [(rng.randint(-reach, reach), rng.randint(-reach, reach))
             for _ in range(rng.randint(least, most))]
+
+
+def random_cuts(rng, outline):
+    """Up to five cuts; some cannot be made."""
+    return [Cut(rng.randrange(4), rng.randrange(len(outline) + 1), rng.randrange(len(outline) + 1))
+            for _ in range(rng.randrange(6))]
 
 
 def begin_line(rng):

@@ -1,5 +1,5 @@
 """The rows of "Plots worked by hand" in document 01 that carry no ✱, then rings, masks, pairs of walks, square sums,
-moves and runs of document 02, one line each.
+moves, runs and third moments of document 02, one line each.
 
 Fields are separated by tabs: label, what was asked, refusal number (0 if accepted), values.
 Reading a square sum refuses nothing, so its row has no refusal number.
@@ -8,9 +8,10 @@ from annex import annex
 from cells import MOST_RUNS, Run, region_totals
 from figures import CLOSED_WALK, FRESH_ISLAND, NEW_SHEET, TOTAL_LIMIT, ZERO_TOTALS
 from figures import Kind, Sheet, begin, centre_of_totals, end, list_call, outline_totals, point
-from inputs import RECTANGLE, SQUARE
+from inputs import FIGURE_EIGHT, RECTANGLE, SQUARE, SQUARE_WEST, UNIT_SQUARE
 from masks import MOST_WORDS, WORDS_IN_A_ROW, mask_runs, mask_totals
 from moves import AffineMap, composed, map_call, shift
+from third_moments import third_moments
 from walkers import compare_walks
 
 DOUBLING = AffineMap(a=2, b=0, g=0, h=2, e=0, f=0)
@@ -240,6 +241,23 @@ def array_row(run):
     return ["runs-4097", *run, number, index, *totals]
 
 
+# Lists by name.  The last three are refused: with 35, with 1, with 2.
+THIRDS = {"unit-square": numbers_of(UNIT_SQUARE),
+          "rectangle": numbers_of(RECTANGLE),
+          "figure-eight": numbers_of(FIGURE_EIGHT),
+          "square-west": numbers_of(SQUARE_WEST),
+          "at-the-limit": numbers_of([(500, -500), (0, 500), (-500, 0)]),
+          "past-the-limit": numbers_of([(500, -500), (0, 501), (-500, 0)]),
+          "outside": numbers_of([(600, 0), (0, 0), (0, 2001)]),
+          "odd": [600, 0, 0, 0, 0, 5, 0]}
+
+
+def third_row(name):
+    """Third moments.  Asked: the list's name.  Answered: number, four totals by falling power of x."""
+    number, totals = third_moments(THIRDS[name])
+    return ["third", name, number, *totals]
+
+
 def rows():
     """The fields of every row."""
     yield limit_row(2000)
@@ -261,6 +279,7 @@ def rows():
     yield from move_rows()
     yield from map(runs_row, mended_lists())
     yield array_row(FIVE_RUNS[-1])
+    yield from map(third_row, THIRDS)
 
 
 if __name__ == "__main__":

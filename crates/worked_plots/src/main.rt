@@ -1,4 +1,4 @@
-// Document 01, "Plots worked by hand": the plots that carry no ✱, and rings, masks, compared walks, square sums, moves and mended runs of document 02, run through the proved functions. Each
+// Document 01, "Plots worked by hand": the plots that carry no ✱, and rings, masks, compared walks, square sums, moves, mended runs and third moments of document 02, run through the proved functions. Each
 // prints a row: label, what was asked, number of the refusal (0 where accepted) and values, separated by tabs, as second/worked.py prints them too. To read a square sum
 // refuses nothing, so its row has no number. The plots marked ✱ are rows of worked_rows/specs/Rows.antt.
 ghost use Prim.Native.Nat.{_≤_};
@@ -11,6 +11,7 @@ mod plots;
 mod ring_rows;
 mod run_rows;
 mod show;
+mod third_rows;
 
 use outline::Position;
 use outline_replies::totals_of_end;
@@ -120,4 +121,5 @@ fn main() {
     run_row(0, 1024);
     move_rows::move_rows();
     run_rows::run_rows();
+    third_rows::third_rows();
 }

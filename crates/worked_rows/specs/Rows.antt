@@ -1,5 +1,5 @@
 -- Document 01, "Plots worked by hand": the plots marked ✱ as one list of rows, each what is asked and the figures that are answered, the run's as document 02,
--- CR 2, has them; the rings of document 02, CR 3, its two walkers, CR 5, and its moves, CR 7 (its runs, CR 8, stand in RunRows, and its entries, CR 9, in EntryRows); and rows for "Errors a surveyor would not notice".
+-- CR 2, has them; the rings of document 02, CR 3, its two walkers, CR 5, and its moves, CR 7 (its runs, CR 8, stand in RunRows, its entries, CR 9, in EntryRows, and its third moments, CR 10, in ThirdRows); and rows for "Errors a surveyor would not notice".
 use Prim.Native.Nat.{ℕ}
 use mathlib.Core.Path.{_≡_}
 use mathlib.Core.Bool.{true, false}
