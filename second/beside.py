@@ -6,6 +6,7 @@ import subprocess
 
 RUN_SECONDS = 120
 SHOWN = 160
+SHORT_BUFFER = 100
 
 
 def chosen_options(description):
@@ -21,6 +22,18 @@ def chosen_options(description):
 def line(*numbers):
     """One line of the program."""
     return " ".join(map(str, numbers))
+
+
+def any_buffer(rng, length):
+    """A caller's buffer of this length and one value behind its end: any numbers of 64 bits."""
+    return [rng.getrandbits(63) - rng.getrandbits(63) for _ in range(length + 1)]
+
+
+def answered(number, values, buffer):
+    """The number that a call with this buffer is to answer, and the buffer afterwards with the value behind its end."""
+    if len(buffer) - 1 < len(values):
+        return SHORT_BUFFER, *buffer
+    return number, *values, *buffer[len(values):]
 
 
 def printed_by(program, given):

@@ -14,14 +14,13 @@ from itertools import product
 from struct import pack
 from typing import NamedTuple
 
-from beside import chosen_options, differs, exit_status, line
+from beside import SHORT_BUFFER, answered, any_buffer, chosen_options, differs, exit_status, line
 from figures import COORDINATE_LIMIT
 from floats import INFINITY, SIGN, exact, is_finite
 from madeup_receiver import boundaries, random_fix
 from receiver import Fix, fix_point, rounded
 
 POINT_VALUES = 2
-SHORT_BUFFER = 100
 NUMBERS = {0, 1, 33, SHORT_BUFFER}
 FIXES_OF_A_CASE = 500
 # Lengths of the buffer: most have room for just the point.
@@ -40,7 +39,7 @@ class Case(NamedTuple):
 
 def case_of(rng, fix, length):
     """The case of a fix and a buffer of this length, with any values."""
-    return Case(fix, [rng.getrandbits(63) - rng.getrandbits(63) for _ in range(length + 1)])
+    return Case(fix, any_buffer(rng, length))
 
 
 def fixed_cases(rng):
@@ -66,9 +65,8 @@ def as_bytes(case):
 
 def wanted_numbers(case):
     """What the program is to print: a number, and the buffer afterwards with the value behind its end."""
-    if len(case.buffer) - 1 < POINT_VALUES:
-        return SHORT_BUFFER, *case.buffer
-    return *fix_point(case.fix), *case.buffer[POINT_VALUES:]
+    number, *place = fix_point(case.fix)
+    return answered(number, place, case.buffer)
 
 
 # Reporting

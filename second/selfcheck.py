@@ -3,7 +3,8 @@ corner cases of its rules, and its laws on made-up outlines; those of islands an
 holes are in selfcheck_rings.py, those of cells and masks in selfcheck_cells.py, those of
 two walkers in selfcheck_walkers.py, those of the annex in selfcheck_annex.py, those of
 moving twice in selfcheck_moves.py, those of the run that a refusal names in selfcheck_runs.py,
-those of a receiver's entries in selfcheck_receiver.py and selfcheck_entries.py.
+those of a receiver's entries in selfcheck_receiver.py and selfcheck_entries.py, those of third
+moments in selfcheck_third_moments.py.
 
 Runnable; prints what fails and exits 1, else prints how many checks passed.
 """
@@ -17,8 +18,8 @@ from figures import Kind, Sheet, Totals
 from figures import abandon, added, begin, centre_of_totals, closed_totals, edge_terms, end
 from figures import list_call, outline_totals, point, within_limits
 from floats import PLUS_ZERO
-from inputs import FIGURE_EIGHT, LISTING, RECTANGLE, UNIT_SQUARE, with_tabs
-from madeup import random_points
+from inputs import FIGURE_EIGHT, LISTING, RECTANGLE, SQUARE_WEST, UNIT_SQUARE, with_tabs
+from madeup import random_cuts, random_points
 from moves import AffineMap, Cut
 from moves import after_cuts, map_call, moved, started_at, walked_backwards
 from selfcheck_annex import check_comparison, check_entries, check_run_sums
@@ -30,13 +31,14 @@ from selfcheck_receiver import check_handed_in, check_longest, check_orders, che
 from selfcheck_receiver import check_worked_fixes
 from selfcheck_rings import check_end_order, check_kinds, check_ring_laws, check_turns, check_worked_rings
 from selfcheck_runs import check_fronts, check_worked_lists
+from selfcheck_third_moments import check_formula_11, check_integrals, check_made_up_lists, check_third_bounds
+from selfcheck_third_moments import check_third_laws, check_worked_third_moments
 from selfcheck_walkers import check_refused_pair, check_walker_corners, check_walker_laws, check_worked_walks
 from worked import numbers_of, walked
 
 LISTING_OUTPUT = ("O 1 4 80 1200 960 14720 21120 8960 5 4",
                   "R 12 32",
                   "S 1 80 1200 960 14720 21120 8960 5 4")
-SQUARE_WEST = [(-1, 0), (0, 0), (0, 1), (-1, 1)]
 
 
 def check_listing():
@@ -129,9 +131,7 @@ def check_other_corners():
 
 def check_demand_3(rng, outline):
     """"Cuts, starts and moves" on one outline and a made-up list of cuts."""
-    cuts = [Cut(rng.randrange(4), rng.randrange(len(outline) + 1), rng.randrange(len(outline) + 1))
-            for _ in range(rng.randrange(6))]
-    pieces = after_cuts(outline, cuts)
+    pieces = after_cuts(outline, random_cuts(rng, outline))
     whole = outline_totals(outline)
     affine = AffineMap(*(rng.randint(-2, 2) for _ in range(4)),
                        *(rng.randint(-50, 50) for _ in range(2)))
@@ -202,6 +202,8 @@ if __name__ == "__main__":
     check_refused_ends()
     check_handed_in()
     check_entry_rows()
+    check_worked_third_moments()
+    check_third_bounds()
     made_up = random.Random(1)
     for _ in range(200):
         reach = made_up.choice([2, 30, 500, 2000])
@@ -223,6 +225,11 @@ if __name__ == "__main__":
     check_fronts(made_up)
     check_sweep(made_up)
     check_entry_lists(made_up)
+    check_formula_11(made_up)
+    check_integrals(made_up)
+    check_made_up_lists(made_up)
+    for _ in range(500):
+        check_third_laws(made_up)
     for failure in failed:
         print(failure)
     print(f"{len(passed)} checks passed, {len(failed)} failed")

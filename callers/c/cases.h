@@ -1,4 +1,4 @@
-/* Cases from standard input, and answers as lines, for masks.c, runs.c, walks.c and fixes.c. */
+/* Cases from standard input, and answers as lines, for masks.c, runs.c, walks.c, fixes.c and third_moments.c. */
 #ifndef CASES_H
 #define CASES_H
 

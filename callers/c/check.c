@@ -1,6 +1,7 @@
 /*
- * Document 01's rectangle and unit square, and two walks, fixes, runs and masks as document 02 has them, through mavrihkel.h; each refusal once, of two walks in every order, and of runs where several
- * are wrong; a buffer that is too short. Totals of cells are also compared with those that an independent loop takes cell by cell. Ends with 1 if an answer is wrong.
+ * Document 01's rectangle and unit square, and two walks, fixes, runs, masks and third moments as document 02 has them, through mavrihkel.h; each refusal once, of two walks and of third moments in
+ * every order, and of runs where several are wrong; a buffer that is too short. Totals of cells are also compared with those that an independent loop takes cell by cell. Ends with 1 if an answer is
+ * wrong.
  */
 #include <inttypes.h>
 #include <stdio.h>
@@ -9,6 +10,7 @@
 #include "expect.h"
 #include "ground.h"
 #include "mavrihkel.h"
+#include "third_rows.h"
 
 #define TOTALS(t) (t)[0], (t)[1], (t)[2], (t)[3], (t)[4], (t)[5]
 
@@ -271,5 +273,6 @@ int main(void)
     check_walks();
     check_fixes();
     check_masks();
+    check_third_moments();
     return wrong;
 }

@@ -1,10 +1,11 @@
 /*
- * The proved calls on outlines, on two walks of one plot, on a receiver's fixes, on regions and on masks, for C and C++ on x86-64 Linux. Link target/staticlib/libexports.a, which
- * `rt staticlib exports` writes.
+ * The proved calls on outlines, on their third moments, on two walks of one plot, on a receiver's fixes, on regions and on masks, for C and C++ on x86-64 Linux. Link target/staticlib/libexports.a,
+ * which `rt staticlib exports` writes.
  *
  * Each call answers a number: 0 where it is accepted, else that of document 01's or 02's refusal, named at each call, the first that applies in the order given. It writes its values to the
  * front of `out`, zeros with every refusal but for the index of a run, and nothing behind them. Where `out_length` is less than the number of its values, it writes nothing, to no list either, and
- * answers MAVRIHKEL_SHORT_BUFFER. That much is proved of the library, for every list, number and buffer; that these declarations fit it is tested (check.c, fixes.c, masks.c, runs.c, walks.c).
+ * answers MAVRIHKEL_SHORT_BUFFER. That much is proved of the library, for every list, number and buffer; that these declarations fit it is tested (check.c, fixes.c, masks.c, runs.c,
+ * third_moments.c, walks.c).
  *
  * What a caller owes: a pointer is aligned and is not NULL, also where the length is 0, and that many entries lie there; the entries of `out`, and those of the list that mavrihkel_mask_runs
  * fills, may be written and overlap no other list. A call keeps no pointer, and no state between calls, so threads may call at once.
@@ -30,6 +31,7 @@ extern "C" {
 #endif
 
 #define MAVRIHKEL_TOTALS 6
+#define MAVRIHKEL_THIRD_TOTALS 4
 #define MAVRIHKEL_CENTRE 2
 #define MAVRIHKEL_COMPARISON 10
 #define MAVRIHKEL_POINT 2
@@ -43,6 +45,16 @@ extern "C" {
  *   1  a coordinate is below -2,000 or above 2,000
  */
 uint32_t mavrihkel_outline_totals(const int32_t *points, size_t points_length, int64_t *out, size_t out_length);
+
+/*
+ * The third moments of an outline (document 02, CR 10), a list as above. Four values, by falling power of x: XXX20 (20 x the integral of x cubed), XXY60 (60 x that of x squared y), XYY60 (60 x that of
+ * x y squared), YYY20 (20 x that of y cubed). They are taken about the peg, not about the centre. The sign is kept: walked backwards, an outline has all four with the other sign. The limit is 500
+ * because with coordinates to 2,000 the sums would not fit 64 bits; within 500 every total is below 10^18 in size.
+ *   2   the length is odd, or there are fewer than 3 points, or over 1,024
+ *   1   a coordinate is below -2,000 or above 2,000
+ *   35  a coordinate is below -500 or above 500
+ */
+uint32_t mavrihkel_third_moments(const int32_t *points, size_t points_length, int64_t *out, size_t out_length);
 
 /*
  * Two walks of one plot, each a list as above; they may overlap, or be one and the same. Ten values. Six differences: the totals of the first less those of the second. Two squared distances, in square

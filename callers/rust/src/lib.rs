@@ -1,13 +1,15 @@
-//! Safe functions over the proved static library `exports`. The numbers of refusals, the units and the order of the totals are document 01's; masks, pairs of walks and a receiver's fixes are document 02's.
+//! Safe functions over the proved static library `exports`. The numbers of refusals, the units and the order of the totals are document 01's; masks, pairs of walks, a receiver's fixes and third moments are document 02's.
 //!
 //! A cell is its ground: the cell in column x of row y is the square from (x, y) to (x + 1, y + 1). So cells answer the `Totals` that an outline does (document 02, CR 2), and `outline_centroid` gives their centre. The functions of before, `region_sums` and `mask_sums`, answered sums over cells as points; they are gone.
 //!
 //! The proofs end at the static library: that the declarations in `linked` fit it is tested (`tests/compare`) and not proved.
 mod linked;
 mod refusal;
+mod third_moments;
 
 use refusal::other_version;
 pub use refusal::{Refusal, RegionRefusal};
+pub use third_moments::{third_moments, third_moments_into, ThirdTotals};
 
 /// The six totals of an outline, or of the ground under cells, in decimetres to the power 2, 3 and 4: multiples of the area, of the first and of the second moments.
 #[derive(Clone, Copy, Debug, PartialEq, Eq)]

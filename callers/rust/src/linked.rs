@@ -9,6 +9,13 @@ extern "C" {
         out_length: usize,
     ) -> u32;
 
+    pub fn mavrihkel_third_moments(
+        points: *const i32,
+        points_length: usize,
+        out: *mut i64,
+        out_length: usize,
+    ) -> u32;
+
     pub fn mavrihkel_compare_walks(
         first: *const i32,
         first_length: usize,

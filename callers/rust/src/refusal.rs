@@ -16,6 +16,7 @@ pub enum Refusal {
     NoArea = 27,
     WrongMaskLength = 31,
     NotFinite = 33,
+    TooFarForThirdMoments = 35,
 }
 
 impl Refusal {
@@ -37,6 +38,7 @@ impl Refusal {
             27 => Some(Refusal::NoArea),
             31 => Some(Refusal::WrongMaskLength),
             33 => Some(Refusal::NotFinite),
+            35 => Some(Refusal::TooFarForThirdMoments),
             _ => other_version(number),
         }
     }
@@ -63,6 +65,9 @@ impl Refusal {
                 "a mask's number of words is no multiple of 16, or is over 16,384 (1,024 rows)"
             }
             Refusal::NotFinite => "a float is infinite or not a number",
+            Refusal::TooFarForThirdMoments => {
+                "a coordinate is outside -500 to 500, so there are no third moments"
+            }
         }
     }
 }

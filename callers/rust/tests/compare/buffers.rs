@@ -2,19 +2,20 @@
 use crate::{affine_map, runs_of, totals};
 use mavrihkel::{
     compare_walks_into, fix_point_into, map_totals_into, mask_runs_into, mask_totals_into,
-    outline_centroid_into, outline_totals_into, region_totals_into, SHORT_BUFFER,
+    outline_centroid_into, outline_totals_into, region_totals_into, third_moments_into,
+    SHORT_BUFFER,
 };
 
 const UNIT_SQUARE: [i32; 8] = [0, 0, 1, 0, 1, 1, 0, 1];
 const ITS_TOTALS: [i64; 6] = [2, 3, 3, 4, 6, 4];
 
-/// Lends buffers of every length to 12 to a call that gives the number and the values.
+/// Lends buffers of every length to 12 to a call that gives the number and the values. Behind each lies one entry more, which is not the call's to write.
 fn leaves_the_rest(call: impl Fn(&mut [i64]) -> u32, number: u32, values: &[i64]) {
     for length in 0..=12 {
-        let before: Vec<i64> = (0..length).map(|k| i64::MIN + k).collect();
+        let before: Vec<i64> = (0..=length as i64).map(|k| i64::MIN + k).collect();
         let mut out = before.clone();
-        let answer = call(&mut out);
-        if out.len() < values.len() {
+        let answer = call(&mut out[..length]);
+        if length < values.len() {
             assert_eq!((answer, out), (SHORT_BUFFER, before));
         } else {
             assert_eq!((answer, &out[..values.len()]), (number, values));
@@ -32,6 +33,15 @@ fn list_call() {
         &[0; 6],
     );
     leaves_the_rest(|out| outline_totals_into(&[9999; 6], out), 1, &[0; 6]);
+}
+
+#[test]
+fn third_moments_call() {
+    let call = |points: &'static [i32]| move |out: &mut [i64]| third_moments_into(points, out);
+    leaves_the_rest(call(&UNIT_SQUARE), 0, &[5, 10, 10, 5]);
+    leaves_the_rest(call(&UNIT_SQUARE[1..]), 2, &[0; 4]);
+    leaves_the_rest(call(&[600, 0, 2001, 0, 0, 1]), 1, &[0; 4]);
+    leaves_the_rest(call(&[0, 0, 501, 0, 0, 1]), 35, &[0; 4]);
 }
 
 #[test]

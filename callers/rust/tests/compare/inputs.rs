@@ -31,9 +31,14 @@ impl Random {
     }
 }
 
-/// Numbers of a list of `length`, all within the limits: spread, close together, or at the corners.
+/// Numbers of a list of `length`, all within the limits.
 pub fn coordinates(random: &mut Random, length: usize) -> Vec<i32> {
-    let size = random.one_of(&[2000, 2000, 3]);
+    coordinates_within(random, 2000, length)
+}
+
+/// Numbers of a list of `length`, none greater in size than the limit: spread, close together, or at the corners.
+pub fn coordinates_within(random: &mut Random, limit: i64, length: usize) -> Vec<i32> {
+    let size = random.one_of(&[limit, limit, 3]);
     let corners = random.one_in(3);
     (0..length)
         .map(|_| {
@@ -58,6 +63,11 @@ pub fn damaged(random: &mut Random, length: usize) -> Vec<i32> {
         }
     }
     list
+}
+
+/// The same points in the opposite order.
+pub fn backwards(list: &[i32]) -> Vec<i32> {
+    list.chunks(2).rev().flatten().copied().collect()
 }
 
 /// The same points recorded once more, in step: each number off by a little, within the limits.

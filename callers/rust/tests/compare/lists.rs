@@ -1,4 +1,4 @@
-use crate::inputs::{coordinates, damaged, Random};
+use crate::inputs::{backwards, coordinates, damaged, Random};
 use crate::{narrow, reference, Met};
 use mavrihkel::outline_totals_into;
 
@@ -59,9 +59,8 @@ fn the_largest_totals() {
     let corners = [-2000, -2000, 2000, -2000, 2000, 2000, -2000, 2000];
     for rounds in [1, 244, 245, 256, 257] {
         let list = corners.repeat(rounds);
-        let backwards: Vec<i32> = list.chunks(2).rev().flatten().copied().collect();
         compare(&list, &mut met);
-        compare(&backwards, &mut met);
+        compare(&backwards(&list), &mut met);
     }
     met.each_of(&[0, 2], 2);
 }

@@ -1,4 +1,4 @@
-//! The static library beside an independent implementation of document 01 and of document 02's pairs of walks, fixes, cells and masks, on seeded inputs: long and short, valid and damaged.
+//! The static library beside an independent implementation of document 01 and of document 02's pairs of walks, fixes, cells, masks and third moments, on seeded inputs: long and short, valid and damaged.
 mod buffers;
 mod centres;
 mod fixes;
@@ -9,10 +9,12 @@ mod masks;
 mod reference;
 mod refusals;
 mod regions;
+mod third_moments;
+mod third_reference;
 mod walks;
 mod worked;
 
-use mavrihkel::{AffineMap, Run, Totals};
+use mavrihkel::{AffineMap, Run, ThirdTotals, Totals};
 use std::collections::BTreeMap;
 
 /// How often each number was answered, so that a test can say that it has met them all.
@@ -44,6 +46,16 @@ pub fn totals(v: [i64; 6]) -> Totals {
         xx12,
         xy24,
         yy12,
+    }
+}
+
+pub fn third_totals(v: [i64; 4]) -> ThirdTotals {
+    let [xxx20, xxy60, xyy60, yyy20] = v;
+    ThirdTotals {
+        xxx20,
+        xxy60,
+        xyy60,
+        yyy20,
     }
 }
 

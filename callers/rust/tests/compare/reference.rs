@@ -42,7 +42,7 @@ fn add_outline(totals: &mut [i128; 6], points: &[(i128, i128)]) {
     }
 }
 
-fn points_of(numbers: &[i32]) -> Vec<(i128, i128)> {
+pub fn points_of(numbers: &[i32]) -> Vec<(i128, i128)> {
     numbers
         .chunks_exact(2)
         .map(|p| (i128::from(p[0]), i128::from(p[1])))

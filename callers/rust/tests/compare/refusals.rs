@@ -6,7 +6,7 @@ use std::error::Error;
 use std::fs;
 use std::path::Path;
 
-const BUT_OF_REGIONS: [Refusal; 10] = [
+const BUT_OF_REGIONS: [Refusal; 11] = [
     Refusal::CoordinateOutsideLimits,
     Refusal::WrongLength,
     Refusal::MapOutsideLimits,
@@ -17,6 +17,7 @@ const BUT_OF_REGIONS: [Refusal; 10] = [
     Refusal::NoArea,
     Refusal::WrongMaskLength,
     Refusal::NotFinite,
+    Refusal::TooFarForThirdMoments,
 ];
 const OF_REGIONS: [RegionRefusal; 3] = [
     RegionRefusal::BadRun(4),
@@ -28,7 +29,7 @@ const OF_REGIONS: [RegionRefusal; 3] = [
 fn numbers() {
     assert_eq!(
         BUT_OF_REGIONS.map(Refusal::number),
-        [1, 2, 3, 4, 5, 8, 11, 27, 31, 33]
+        [1, 2, 3, 4, 5, 8, 11, 27, 31, 33, 35]
     );
     assert_eq!(OF_REGIONS.map(RegionRefusal::number), [6, 7, 8]);
 }
@@ -59,6 +60,7 @@ fn texts_begin_with_the_number_and_the_index() {
         "refusal 27",
         "refusal 31",
         "refusal 33",
+        "refusal 35",
         "refusal 6 (run 4, counted from 0)",
         "refusal 7 (run 5, counted from 0)",
         "refusal 8",

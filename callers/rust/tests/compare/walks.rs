@@ -1,5 +1,5 @@
 //! Two walks of one plot: the ten values, and the list handed back, which is the caller's own.
-use crate::inputs::{coordinates, damaged, recorded_again, Random};
+use crate::inputs::{backwards, coordinates, damaged, recorded_again, Random};
 use crate::{narrow, reference, totals, Met};
 use mavrihkel::{compare_walks, compare_walks_into};
 use std::ptr;
@@ -42,10 +42,6 @@ fn compare_both_ways(first: &[i32], second: &[i32], met: &mut Met) {
     assert_eq!(exchanged[..6], six.map(|z| -z));
     assert_eq!(exchanged[6..8], [back, there]);
     assert_eq!(exchanged[9], length);
-}
-
-fn backwards(list: &[i32]) -> Vec<i32> {
-    list.chunks(2).rev().flatten().copied().collect()
 }
 
 #[test]

@@ -1,8 +1,8 @@
-//! Document 01's plots worked by hand, and document 02's walks, fixes and regions, through the functions that give results.
-use crate::{affine_map, runs_of, totals};
+//! Document 01's plots worked by hand, and document 02's third moments, walks, fixes and regions, through the functions that give results.
+use crate::{affine_map, runs_of, third_totals, totals};
 use mavrihkel::{
     compare_walks, fix_point, map_totals, mask_runs, mask_totals, outline_centroid, outline_totals,
-    region_totals, Centre, Comparison, Point, Refusal, RegionRefusal,
+    region_totals, third_moments, Centre, Comparison, Point, Refusal, RegionRefusal,
 };
 
 #[test]
@@ -26,6 +26,35 @@ fn plots() {
 
     let west = outline_totals(&[-1, 0, 0, 0, 0, 1, -1, 1]).expect("accepted");
     assert_eq!(outline_centroid(west), Ok(Centre { x: 0, y: 1 }));
+}
+
+/// Each plot as it is listed; then refusals, each before the next: 2, 1, 35.
+#[test]
+fn third_moments_of_plots() {
+    let worked = [
+        ([0, 0, 1, 0, 1, 1, 0, 1], [5, 10, 10, 5]),
+        (
+            [2, 0, 10, 4, 8, 8, 0, 4],
+            [168_000, 342_400, 262_400, 76_800],
+        ),
+        ([0, 0, 2, 2, 2, 0, 0, 2], [-96, -160, -96, 0]),
+        ([-1, 0, 0, 0, 0, 1, -1, 1], [-5, 10, -10, 5]),
+    ];
+    for (points, four) in worked {
+        assert_eq!(third_moments(&points), Ok(third_totals(four)));
+    }
+    assert_eq!(third_moments(&[2001; 7]), Err(Refusal::WrongLength));
+    let first_600 = [600, 0, 0, 5, 0, 2001];
+    assert_eq!(
+        third_moments(&first_600),
+        Err(Refusal::CoordinateOutsideLimits)
+    );
+    assert_eq!(
+        third_moments(&[0, 0, 0, 5, 0, -501]),
+        Err(Refusal::TooFarForThirdMoments)
+    );
+    let corners = [-500, -500, 500, -500, 500, 500];
+    assert!(third_moments(&corners).is_ok());
 }
 
 fn comparison(six: [i64; 6], there: i64, back: i64, longer: &[i32]) -> Comparison<'_> {

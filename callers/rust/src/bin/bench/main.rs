@@ -6,6 +6,7 @@
 mod fixes;
 mod outlines;
 mod regions;
+mod third_moments;
 mod walks;
 
 use std::hint::black_box;
@@ -73,6 +74,8 @@ impl Numbers {
 
 fn main() {
     outlines::table();
+    println!();
+    third_moments::table();
     println!();
     walks::table();
     println!();

@@ -9,7 +9,7 @@ fn library(points: &[i32], out: &mut [i64; 6]) -> u32 {
     outline_totals_into(points, out)
 }
 
-fn wrong_length(points: &[i32]) -> bool {
+pub fn wrong_length(points: &[i32]) -> bool {
     points.len() % 2 == 1 || !(3..=1024).contains(&(points.len() / 2))
 }
 
