@@ -5,7 +5,7 @@ use mathlib.Core.Bool.{true, false, not}
 use mathlib.Core.List.{List, [], _∷_, _++_}
 use native.Mathlib.Omega.{arith}
 use lib.IntN.{pos}
-use lib.ListN.{length, replicate}
+use lib.ListN.{length, replicate, length-replicate}
 use borrow.Author.Tests.{lt-ltb, le-ltb, eq-eqb, ne-eqb}
 use Rattle.integers.proofs.Flags.{neither}
 use Rattle.integers.specs.Search.{firstWhere}
@@ -104,6 +104,30 @@ room n = replicate n (record { row = 7; first = 7; length = 7 })
 abbrev answer : MaskRunsOutcome → ℕ × ℕ
 answer o = (o .number, o .count)
 
+-- How many runs the two masks have: counted here, and once.
+eight-rows-runs : length (longestRuns eightRows) ≡ 4096
+unfolding firstWhere cellsFrom isMarked rowsFrom those beginsRun endColumn longestRuns
+eight-rows-runs = refl
+
+nine-rows-runs : length (longestRuns nineRows) ≡ 4097
+unfolding firstWhere cellsFrom isMarked rowsFrom those beginsRun endColumn longestRuns
+nine-rows-runs = refl
+
+-- A mask of whole rows that has n runs, and a list with room for m.
+module _ (ws : List ℕ) (n m : ℕ) (whole : wrongLength (length ws) ≡ false) (runs : length (longestRuns ws) ≡ n) where
+  -- The test looks at how many runs there are, and not at the runs.
+  any-runs : tooManyFor (room m) (longestRuns ws) ≡ tooManyFor (room m) (room n)
+  unfolding tooMany tooManyFor
+  any-runs = rw (runs, length-replicate n)
+
+  written : tooManyFor (room m) (room n) ≡ false → answer (maskRunsCall ws (room m)) ≡ (0, n)
+  unfolding maskRunsCall
+  written few = rw (whole, any-runs, few, runs)
+
+  not-written : tooManyFor (room m) (room n) ≡ true → maskRunsCall ws (room m) ≡ record { number = 8; index = 0; count = 0; list = room m }
+  unfolding maskRunsCall
+  not-written many = rw (whole, any-runs, many)
+
 record Eight : Type 0 where
   -- as many runs as the list holds, and room for one less
   as-many : answer (maskRunsCall eightRows (room 4096)) ≡ (0, 4096)
@@ -117,7 +141,15 @@ record Eight : Type 0 where
 
 eight : Eight
 unfolding firstWhere cellsFrom tooMany isMarked rowsFrom those beginsRun endColumn longestRuns wrongLength tooManyFor maskRunsCall
-eight = record { as-many = refl; one-less = refl; too-many = refl; far-more-room = refl; empty-mask = refl; unmarked-row = refl }
+eight =
+    record {
+      as-many = written eightRows 4096 4096 refl eight-rows-runs refl;
+      one-less = not-written eightRows 4096 4095 refl eight-rows-runs refl;
+      too-many = not-written nineRows 4097 4097 refl nine-rows-runs refl;
+      far-more-room = not-written nineRows 4097 5000 refl nine-rows-runs refl;
+      empty-mask = refl;
+      unmarked-row = refl;
+    }
 
 -- ---- the order 31, 8
 

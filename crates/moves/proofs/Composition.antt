@@ -8,7 +8,7 @@ use Rattle.integers.proofs.Ring.{ring, quote, given}
 use Rattle.outline.specs.declared.Position.{Position}
 use Rattle.outline.specs.declared.Totals.{Totals}
 use Rattle.outline.specs.declared.AffineMap.{AffineMap}
-use Rattle.outline.specs.MapCall.{movePoint, determinant, brackets, scaled}
+use Rattle.outline.specs.MapCall.{movePoint, determinant, firstMoment, secondMoment, brackets, scaled}
 use Rattle.outline.proofs.TotalsLaws.{totals-equal}
 use Rattle.moves.specs.Composition.{composed}
 use Rattle.moves.specs.MovedTwice.{CompositionMeans, FormulasTwice}
@@ -59,19 +59,27 @@ determinants : (first second : AffineMap) → determinant second *ℤ determinan
 determinants first second = ring (numbersOf first ++ numbersOf second) (search quote depth 60 fits 20000) (search quote depth 60 fits 20000) tt
 
 -- Any number times the first map's brackets, put into the second's.
-module _ (first second : AffineMap) (d : ℤ) (t : Totals) where
-  abbrev all : List ℤ
-  all = t .a2 ∷ t .x6 ∷ t .y6 ∷ t .xx12 ∷ t .xy24 ∷ t .yy12 ∷ d ∷ numbersOf first ++ numbersOf second
+module _ (first : AffineMap) (d : ℤ) (t : Totals) where
+  abbrev numbers : List ℤ
+  numbers = t .a2 ∷ t .x6 ∷ t .y6 ∷ t .xx12 ∷ t .xy24 ∷ t .yy12 ∷ d ∷ numbersOf first
 
-  composed-brackets : brackets second (scaled d (brackets first t)) ≡ scaled d (brackets (composed first second) t)
-  composed-brackets =
+  -- What a row of the second map, with a, b, e, makes of them.
+  module _ (a b e : ℤ) where
+    first-moment : firstMoment a b e (scaled d (brackets first t)) ≡ d *ℤ firstMoment (a *ℤ first .a +ℤ b *ℤ first .g) (a *ℤ first .b +ℤ b *ℤ first .h) (a *ℤ first .e +ℤ b *ℤ first .f +ℤ e) t
+    first-moment = ring (numbers ++ a ∷ b ∷ e ∷ []) (search quote depth 60 fits 20000) (search quote depth 60 fits 20000) tt
+
+    second-moment : secondMoment a b e (scaled d (brackets first t)) ≡ d *ℤ secondMoment (a *ℤ first .a +ℤ b *ℤ first .g) (a *ℤ first .b +ℤ b *ℤ first .h) (a *ℤ first .e +ℤ b *ℤ first .f +ℤ e) t
+    second-moment = ring (numbers ++ a ∷ b ∷ e ∷ []) (search quote depth 60 fits 20000) (search quote depth 60 fits 20000) tt
+
+  composed-brackets : (second : AffineMap) → brackets second (scaled d (brackets first t)) ≡ scaled d (brackets (composed first second) t)
+  composed-brackets second =
       totals-equal
       refl
-      (ring all (search quote depth 60 fits 20000) (search quote depth 60 fits 20000) tt)
-      (ring all (search quote depth 60 fits 20000) (search quote depth 60 fits 20000) tt)
-      (ring all (search quote depth 60 fits 20000) (search quote depth 60 fits 20000) tt)
-      (ring all (search quote depth 60 fits 20000) (search quote depth 60 fits 20000) tt)
-      (ring all (search quote depth 60 fits 20000) (search quote depth 60 fits 20000) tt)
+      (first-moment (second .a) (second .b) (second .e))
+      (first-moment (second .g) (second .h) (second .f))
+      (second-moment (second .a) (second .b) (second .e))
+      (ring (numbers ++ numbersOf second) (search quote depth 60 fits 20000) (search quote depth 60 fits 20000) tt)
+      (second-moment (second .g) (second .h) (second .f))
 
 scaled-twice : (c d : ℤ) (t : Totals) → scaled c (scaled d t) ≡ scaled (c *ℤ d) t
 scaled-twice c d t = simp mul-assoc
@@ -80,6 +88,6 @@ pub formulas-twice : FormulasTwice
 formulas-twice first second t =
     let d = determinant first in
     let both = brackets (composed first second) t in
-    ap (scaled (determinant second)) (composed-brackets first second d t)
+    ap (scaled (determinant second)) (composed-brackets first d t second)
     ∙ scaled-twice (determinant second) d both
     ∙ ap (λ k. scaled k both) (determinants first second)
