@@ -3,15 +3,18 @@ use mathlib.Core.Path.{_≡_, refl, sym, _∙_, ap, subst}
 use mathlib.Core.Bool.{true, false}
 use mathlib.Core.List.{List, [], _∷_, map, List·Memᴰ, List·Memᴰ·head, List·Memᴰ·tail}
 use Prim.Native.Nat.{ℕ, zero, suc}
-use lib.IntN.{ℤ, pos, negsuc}
+use lib.IntN.{ℤ, pos, negsuc, negℤ, _+ℤ_}
+use Rattle.outline.specs.declared.Position.{Position}
 use Rattle.outline.specs.declared.Totals.{Totals}
 use Rattle.outline.specs.declared.AffineMap.{AffineMap}
-use Rattle.outline.specs.EdgeSums.{openEdges, edges, sumOver, over, exceed, zeros, negated}
+use Rattle.outline.specs.EdgeSums.{Term, openEdges, edges, sumOver, over, exceed, zeros, negated}
 use Rattle.outline.specs.ListCall.{accepted, points, numbers, beyond, anyBeyond, anyOutside, wrongLength, listCall}
 use Rattle.outline.specs.MapCall.{moved, disallowed, mapCall}
-use Rattle.outline.specs.Pieces.{Piece, Cut, neighbours, canCut, cutOnce, cutAll, piecesOf, startAt, Direction, backwards, walked, placed, totalsOf, sumOf, directed}
+use Rattle.outline.specs.Pieces.{Piece, Cut, neighbours, canCut, cutOnce, cutAll, piecesOf, startAt, Direction, forwards, backwards, walked, placed, totalsOf, sumOf, directed}
+use Rattle.outline.specs.OddTerms.{sumAround, OddTermAddsUp}
 use Rattle.outline.specs.PiecesAddUp.{AddUpMoved}
 use Rattle.outline.proofs.WorkedInputs.{at}
+use Rattle.outline.proofs.OddTermAddsUp.{odd-term-adds-up}
 use Rattle.outline.proofs.PiecesAddUp.{pieces-add-up}
 use Rattle.outline.proofs.PiecesLaws.{same-sum, OnePiece, one-piece}
 
@@ -152,3 +155,19 @@ far-corner = one-piece pentagon pentagonTotals pentagon-taken (cut 0 1 4 ∷ [])
 -- Whatever the cuts and the starts, the pieces' totals add up to the same.
 any-cuts : (zs : List ℤ) (t : Totals) → listCall zs ≡ accepted t → (m : AffineMap) → disallowed m ≡ false → anyOutside (moved m (points zs)) ≡ false → (direction : Direction) (some others : List Cut) (start from : ℕ → ℕ) → sumOf (map totalsOf (map (moved m) (placed direction start (piecesOf (points zs) some)))) ≡ sumOf (map totalsOf (map (moved m) (placed direction from (piecesOf (points zs) others))))
 any-cuts zs t taken m allowed bounds direction some others start from = same-sum (pieces-add-up zs t taken some start direction m allowed bounds) (pieces-add-up zs t taken others from direction m allowed bounds)
+
+-- ---- any edge term that changes sign with its edge
+
+any-term : OddTermAddsUp
+any-term = odd-term-adds-up
+
+module _ (t : Term) (turns : (a b : Position) → t b a ≡ negℤ (t a b)) (ps : List Position) (cutting : List Cut) (start : ℕ → ℕ) where
+  term-forwards : sumAround t (placed forwards start (piecesOf ps cutting)) ≡ sumOver t (edges ps)
+  term-forwards = any-term t turns ps cutting start forwards
+
+  term-backwards : sumAround t (placed backwards start (piecesOf ps cutting)) ≡ negℤ (sumOver t (edges ps))
+  term-backwards = any-term t turns ps cutting start backwards
+
+-- Two pieces, each with its closing edge.
+two-sums : (t : Term) (p q : Piece) → sumAround t (p ∷ q ∷ []) ≡ sumOver t (edges p) +ℤ (sumOver t (edges q) +ℤ pos 0)
+two-sums t p q = refl
