@@ -19,7 +19,7 @@ use Rattle.outline.specs.declared.Position.{Position}
 use Rattle.outline.specs.declared.Totals.{Totals}
 use Rattle.outline.specs.declared.Sizes.{Sizes}
 use Rattle.outline.specs.EdgeSums.{Term, a2, x6, y6, xx12, xy24, yy12, six, openEdges, edges, sumOver, totalsOver, outlineTotals, over, exceed, outlineBounds}
-use Rattle.outline.specs.ListCall.{accepted, refused, points, numbers, beyond, outside, anyBeyond, anyOutside, wrongLength, listCall}
+use Rattle.outline.specs.ListCall.{accepted, refused, points, numbers, beyond, anyBeyond, anyOutside, wrongLength, listCall}
 use Rattle.outline.specs.MapCall.{totalLimits}
 use Rattle.outline.specs.WalkCalls.{origin, share}
 use Rattle.outline.specs.private.Fit.{Fit}

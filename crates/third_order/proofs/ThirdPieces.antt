@@ -12,7 +12,6 @@ use Rattle.outline.proofs.Every.{All, all-member}
 use Rattle.outline.proofs.Limits.{InsideOf}
 use Rattle.outline.proofs.OddTermAddsUp.{odd-term-adds-up}
 use Rattle.outline.proofs.PlacedPieces.{pieces-outlines}
-use Rattle.third_order.specs.declared.ThirdTotals.{ThirdTotals}
 use Rattle.third_order.specs.ThirdTerms.{four, thirdTotals, plusThirds}
 use Rattle.third_order.specs.ThirdCall.{ThirdOutcome, acceptedThirds, thirdLimit, thirdCall}
 use Rattle.third_order.specs.ThirdPieces.{thirdsOf, sumOfThirds, directedThirds, ThirdPiecesAddUp}

@@ -1,14 +1,12 @@
 -- `outline_calls::list::sum_edges` meets its contract. The invariant: the open edges of the first k points are summed.
-use mathlib.Core.Path.{_≡_, refl, sym, _∙_}
+use mathlib.Core.Path.{_≡_, refl}
 use mathlib.Core.List.{List}
-use Prim.Native.Nat.{ℕ, _/_, _-_, _<_, _≤_}
+use Prim.Native.Nat.{_-_}
 use native.Mathlib.Omega.{arith}
 use borrow.Author.Needs.{needs}
 use lib.IntN.{ℤ}
-use lib.ListN.{length, getD, take}
-use Rattle.outline.specs.declared.Position.{Position}
-use Rattle.outline.specs.declared.Totals.{Totals}
-use Rattle.outline.specs.EdgeSums.{six, openEdges, totalsOver, plus}
+use lib.ListN.{length, getD}
+use Rattle.outline.specs.EdgeSums.{six, plus}
 use Rattle.outline.specs.ListCall.{points as pointsOf}
 use Rattle.outline.specs.WalkCalls.{origin}
 use Rattle.outline.proofs.IndexLaws.{length-points}
@@ -68,12 +66,12 @@ sub-position-at-2 c =
     omega (arith, length-points (numbers s))
 
 -- All points are walked.
-whole : (c : tie.After-loop Inv-loop μ-loop) → c .before .loop .k ≡ length (numbers (c .before .before)) / 2
+whole : (c : tie.After-loop Inv-loop μ-loop) → c .before .loop .k ≡ length (pointsOf (numbers (c .before .before)))
 whole c = omega (arith, c .before .loop .inv .most, length-points (numbers (c .before .before)))
 
 -- So the point that is read again is the last of them.
 last-is : (c : tie.After-position-at3 Inv-loop μ-loop) → c .position-at3 .result ≡ getD (pointsOf (numbers (c .before .before .before))) (c .before .before .loop .k - 1) origin
-last-is c = rw (whole (c .before)) (c .position-at3 .ensures)
+last-is c = rw (whole (c .before), length-points (numbers (c .before .before .before))) (c .position-at3 .ensures)
 
 add-edge-requires-2 : tie.Need-add-edge-requires-2 Inv-loop μ-loop
 add-edge-requires-2 c κs =
@@ -90,7 +88,7 @@ returns c =
     let looped = ended .before .before .before in
     let zs = numbers (looped .before) in
     let at = looped .loop in
-    summed-closed six plus (λ f g. refl) (pointsOf zs) (at .k) (at .inv) (whole (ended .before .before) ∙ sym (length-points zs)) (last-is (ended .before)) (ended .position-at4 .ensures) (c .add-edge2 .ensures)
+    summed-closed six plus (λ f g. refl) (pointsOf zs) (at .k) (at .inv) (whole (ended .before .before)) (last-is (ended .before)) (ended .position-at4 .ensures) (c .add-edge2 .ensures)
 
 pub sum-edges-spec : {M : Type 1} → statement M
 sum-edges-spec =
