@@ -1,19 +1,21 @@
 """Recomputes what the pages say: python3 docs/check.py [--plots PROGRAM]. Prints what is wrong and exits 1.
 
-In NUMBERS.md, CROSSINGS.md, CASES.md, CASES-CELLS.md, TWO-WALKS.md and RECEIVER.md every figure must be one that is recomputed:
+In NUMBERS.md, CROSSINGS.md, CASES.md, CASES-CELLS.md, TWO-WALKS.md, RECEIVER.md and THIRD-MOMENTS.md every figure must be one
+that is recomputed:
 - a fenced block `input` (with a file's name, the file's own text) and the block `output` after it: what the program
   and the second program print;
 - a code span with =, ≤, < or ≈: its sides, by exact fractions. A decimal after = is exact; one after ≈ is rounded to
   the places that it has. Its names stand for the figures of the line that the last comment `figures:` names, of the
-  last block or of an example file, and it does not end in a fraction; before the first such comment under a heading
+  last block or of an example file, and it does not end in a fraction; a unit that follows is that of its first side; before the first such comment under a heading
   it is a general formula, and is tried on every line of the page and on made-up outlines, rings, regions, bits of masks,
   pairs of walks and fixes. The figures of an O line and of the S line count each ring by its kind; an R line with 32 stands
   for the points of the ring that it refuses, as the call on a whole list answers them;
 - a table after a comment `terms`, `map`, `moves`, `edges`, `loops`, `test`, `trial`, `answers`, `ground`, `cells`, `regions` or `mended`,
   or `answer`, `products`, `nearest`, `compared` or `sizes` for two walks, or `fixes`, `entries`, `corners`,
-  `refused` or `calls` for a receiver; a block `runs`, `mask`, `map` or `walks`. A block `runs` that follows a block `mask` has the runs that the second
-  program writes for it;
-- a block of code for the walks of the last block `walks`, and the block `printed` after it: see page_code.py.
+  `refused` or `calls` for a receiver, or `thirds`, `seen`, `spread`, `rings`, `order` or `bounds` for third moments; a block
+  `runs`, `mask`, `map`, `walks` or `points`. A block `runs` that follows a block `mask` has the runs that the second program
+  writes for it;
+- a block of code for the lists of the last block `walks` or `points`, and the block `printed` after it: see page_code.py.
 A digit anywhere else is an error. A comment `crosses:`, `plain:` or `same:` says what the outlines of the lines that it
 names are, `inside:` that the centre of the first lies inside the second. README.md: its example, its limits and its
 command for other units. REFUSALS.md: the numbers. ARCHITECTURE.md: every crate, above all that it rests on. CLAIMS*.md:
@@ -37,15 +39,17 @@ import moves  # noqa: E402
 import pictures  # noqa: E402
 import receiver  # noqa: E402
 import text  # noqa: E402
+import third_moments  # noqa: E402
 from crates import listed_crates  # noqa: E402
 from differences import expect, wrong  # noqa: E402
 from floats import LARGEST, SIGN, bits_of, outage_refusal  # noqa: E402
 from page import Page  # noqa: E402
 
 PRINTED_REFUSALS = [1, 9, 10, *range(21, 27), 32]
-OTHER_REFUSALS = [*range(2, 9), 11, 27, 28, 31, 33, 34]
+OTHER_REFUSALS = [*range(2, 9), 11, 27, 28, 31, 33, 34, 35]
 LIMITS = {
     "a coordinate": f"-{figures.COORDINATE_LIMIT:,} to {figures.COORDINATE_LIMIT:,} decimetres: {figures.COORDINATE_LIMIT // 10} m from the peg, east, west, north and south",
+    "a coordinate, for third moments": f"-{third_moments.THIRD_LIMIT:,} to {third_moments.THIRD_LIMIT:,} decimetres: {third_moments.THIRD_LIMIT // 10} m from the peg",
     "east and north of a fix": f"from -{figures.COORDINATE_LIMIT:,}.5 on, and below {figures.COORDINATE_LIMIT:,}.5 decimetres",
     "an outage": "0 seconds or more, and finite",
     "points of an outline": f"{figures.LEAST_POINTS} to {figures.MOST_POINTS:,}",
@@ -151,7 +155,7 @@ def main():
     parser = argparse.ArgumentParser(description="Recomputes what the pages say.")
     parser.add_argument("--plots", type=Path, default=ROOT / "target" / "bin" / "plots", help="the program to run")
     plots = parser.parse_args().plots.resolve()
-    for name in ("NUMBERS.md", "CROSSINGS.md", "CASES.md", "CASES-CELLS.md", "TWO-WALKS.md", "RECEIVER.md"):
+    for name in ("NUMBERS.md", "CROSSINGS.md", "CASES.md", "CASES-CELLS.md", "TWO-WALKS.md", "RECEIVER.md", "THIRD-MOMENTS.md"):
         Page(DOCS / name, plots).check()
     check_readme(plots)
     check_refusals()

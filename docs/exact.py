@@ -14,15 +14,20 @@ TOTALS = ("A2", "X6", "Y6", "XX12", "XY24", "YY12")
 MULTIPLES = (2, 6, 6, 12, 24, 12)    # of the integrals below, in their order
 INTEGRANDS = {"area": lambda x, y: 1, "∫x": lambda x, y: x, "∫y": lambda x, y: y,
               "∫x²": lambda x, y: x * x, "∫xy": lambda x, y: x * y, "∫y²": lambda x, y: y * y}
+THIRD_TOTALS = ("XXX20", "XXY60", "XYY60", "YYY20")
+CUBES = {"∫x³": lambda x, y: x ** 3, "∫x²y": lambda x, y: x * x * y, "∫xy²": lambda x, y: x * y * y, "∫y³": lambda x, y: y ** 3}
 PRINTED = ("points", *TOTALS, "centre x", "centre y")
 METRES = {"area": " in m²", "∫x": " in m³", "∫y": " in m³", "∫x²": " in m⁴", "∫xy": " in m⁴", "∫y²": " in m⁴"}
 CENTRAL = {"Mxx": "∫x²", "Mxy": "∫xy", "Myy": "∫y²"}
+CENTRAL_CUBES = {"Mxxx": "∫x³", "Mxxy": "∫x²y", "Mxyy": "∫xy²", "Myyy": "∫y³"}
+SKEWNESS = {"skewness in x": ("Mxxx", "Mxx"), "skewness in y": ("Myyy", "Myy")}
 SUMS = {"A": "area", "Σx": "∫x", "Σy": "∫y", "Σx²": "∫x²", "Σxy": "∫xy", "Σy²": "∫y²"}
 WALKS = (*(f"{which} {name}" for which in ("first", "second") for name in (*TOTALS, *INTEGRANDS)),
          *(f"difference in {name}" for name in TOTALS), "first to second", "second to first")
 NAMES = (*TOTALS, *INTEGRANDS, *(name + unit for name, unit in METRES.items()), "area in ha", *CENTRAL,
-         *(name + " in m⁴" for name in CENTRAL), *SUMS, *WALKS, "outline", "outlines", "points", "exact x", "exact y",
-         "centre x", "centre y", "c", "x", "y", "p", "q", "a", "b", "g", "h", "e", "f", "d", "k", "w", "i",
+         *(name + " in m⁴" for name in CENTRAL), *THIRD_TOTALS, *CUBES, *CENTRAL_CUBES,
+         *(name + " in m⁵" for name in CENTRAL_CUBES), *SKEWNESS, *SUMS, *WALKS, "outline", "outlines", "points", "exact x", "exact y",
+         "mx", "my", "centre x", "centre y", "c", "x", "y", "p", "q", "a", "b", "g", "h", "e", "f", "d", "k", "w", "i",
          "east", "north")
 
 
@@ -35,9 +40,20 @@ def over_triangle(integrand, a, b, c):
     return Fraction(doubled) / 2 * sum(Fraction(integrand(x, y)) for x, y in middles) / 3
 
 
-def integral(integrand, outlines):
+def cube_over_triangle(integrand, a, b, c):
+    """The signed integral by the values at the corners, at the midpoints of the sides and at the centre, exact up to cubes."""
+    doubled = (b[0] - a[0]) * (c[1] - a[1]) - (c[0] - a[0]) * (b[1] - a[1])
+
+    def value(*corners):
+        return Fraction(integrand(*(sum(values) / Fraction(len(corners)) for values in zip(*corners))))
+
+    mean = (value(a) + value(b) + value(c)) / 20 + 2 * (value(a, b) + value(b, c) + value(c, a)) / 15 + 9 * value(a, b, c) / 20
+    return Fraction(doubled) / 2 * mean
+
+
+def integral(integrand, outlines, triangle=over_triangle):
     """The sum over outlines of the triangles that each edge makes with its outline's first point."""
-    return sum((over_triangle(integrand, points[0], points[i], points[i + 1])
+    return sum((triangle(integrand, points[0], points[i], points[i + 1])
                 for points in outlines for i in range(1, len(points) - 1)), Fraction(0))
 
 
@@ -56,6 +72,24 @@ def outline_figures(outlines):
         for name, moment in CENTRAL.items():
             figures[name] = integral(INTEGRANDS[moment], about)
             figures[name + " in m⁴"] = integral(INTEGRANDS[moment], about_in_metres)
+    return figures
+
+
+def third_figures(outlines):
+    """By name, the figures of third order; the centre's where the area is not 0, and the skewness where the mean square about
+    the centre is above 0."""
+    known = outline_figures(outlines)
+    figures = {name: integral(f, outlines, cube_over_triangle) for name, f in CUBES.items()}
+    if "exact x" in known:
+        x, y = (known[name] for name in ("exact x", "exact y"))
+        figures |= {"mx": x, "my": y}
+        for name, moment in CENTRAL_CUBES.items():
+            for unit, written in ((1, ""), (10, " in m⁵")):
+                about = [[((s - x) / unit, (t - y) / unit) for s, t in points] for points in outlines]
+                figures[name + written] = integral(CUBES[moment], about, cube_over_triangle)
+        for name, (third, second) in SKEWNESS.items():
+            if known[second] / known["area"] > 0:
+                figures[name] = figures[third] / known["area"] / root((known[second] / known["area"]) ** 3)
     return figures
 
 
@@ -83,14 +117,29 @@ DECIMAL = re.compile(r"(\d+)\.(\d+)")
 ROOT = re.compile(r"√(\d+)")
 ENTRY = re.compile(r"entry (\d+)")
 ANNEX = tuple(accumulate((j * j for j in range(1_024)), initial=0))
-ROOT_PLACES = 20
 SIGNS = {"−": "-", "×": "*", "^": "**", "²": "**2", "³": "**3", "⁴": "**4", "⌊": "floor(", "⌋": ")"}
-OPERATORS = {ast.Add: operator.add, ast.Sub: operator.sub, ast.Mult: operator.mul, ast.Div: operator.truediv,
-             ast.Pow: operator.pow}
 
 
 class NotAFormula(Exception):
     """The text has a word or a sign that no formula has."""
+
+
+def root(number):
+    """The square root, cut off after twenty places if it is longer."""
+    places = 10 ** 20
+    return Fraction(math.isqrt(number.numerator * number.denominator * places ** 2), number.denominator * places)
+
+
+def raised(base, exponent):
+    """A power. With a half in the exponent it is a root, and none where the base is not above 0."""
+    if exponent.denominator > 2:
+        raise NotAFormula(f"^({exponent})")
+    if exponent.denominator == 2 and base <= 0:
+        raise ZeroDivisionError
+    return base ** exponent if exponent.denominator == 1 else root(base ** exponent.numerator)
+
+
+OPERATORS = {ast.Add: operator.add, ast.Sub: operator.sub, ast.Mult: operator.mul, ast.Div: operator.truediv, ast.Pow: raised}
 
 
 def annex_entry(match):
@@ -125,8 +174,7 @@ def value(text, figures):
 
 
 def evaluated(tree, named):
-    """Sums, products, quotients, powers, the whole part, whole numbers and their roots, and names by their place. A root that
-    is not whole is cut off after twenty places."""
+    """Sums, products, quotients, powers, the whole part, whole numbers and their roots, and names by their place."""
     match tree:
         case ast.Tuple(elts=[ast.Constant(value=place)]):
             return Fraction(named[place])
@@ -139,7 +187,7 @@ def evaluated(tree, named):
         case ast.Call(func=ast.Name(id="floor"), args=[part]):
             return Fraction(math.floor(evaluated(part, named)))
         case ast.Call(func=ast.Name(id="root"), args=[ast.Constant(value=int() as number)]):
-            return Fraction(math.isqrt(number * 100 ** ROOT_PLACES), 10 ** ROOT_PLACES)
+            return root(number)
     raise NotAFormula(ast.dump(tree))
 
 

@@ -1,4 +1,5 @@
 """A page whose every figure is recomputed: its blocks, tables and formulas. See check.py for what a page may have."""
+import functools
 import random
 import re
 import subprocess
@@ -14,6 +15,8 @@ import page_masks
 import page_moves
 import page_receiver
 import page_rings
+import page_thirds
+import page_units
 import page_walks
 import pictures
 import text
@@ -22,14 +25,16 @@ from differences import expect
 ROOT = Path(__file__).resolve().parent.parent
 SEED = 7
 MADE_UP = 100
-ALLOWED = re.compile(r"\b(A2|X6|Y6|XX12|XY24|YY12|[Dd]ocument 0[12]|document 000|CR [2389]|[Rr]efusals? (1|3|4|6|7|8|10|22|23|27|28|31|32|33|34))\b")
-ROWS = page_walks.ROWS | page_receiver.ROWS
+ALLOWED = re.compile(r"\b(A2|X6|Y6|XX12|XY24|YY12|XXX20|XXY60|XYY60|YYY20|[Dd]ocument 0[12]|document 00[01]|formula 11|CR ([2389]|10)"
+                     r"|[Rr]efusals? (1|3|4|6|7|8|10|22|23|27|28|31|32|33|34|35))\b")
+ROWS = page_cells.ROWS | page_walks.ROWS | page_receiver.ROWS | page_thirds.ROWS
 # Of the tables that are recomputed in part: the cells of a row that are read as text.
 AS_TEXT = {"test": slice(1, None), "ground": slice(3, None), "regions": slice(1)}
 
 
 # Figures by name
 
+@functools.cache
 def made_up():
     """Figures of made-up outlines, rings, edges, maps, regions, bits, pairs of walks and fixes, by the second program and by exact integrals."""
     chance = random.Random(SEED)
@@ -55,7 +60,7 @@ class Page:
         self.path, self.plots = path, plots
         self.lines = [*path.read_text().splitlines(), ""]
         self.blocks, self.examples = {}, {}
-        self.general = made_up()
+        self.general = [*made_up()]
         self.terms, self.mask = {}, None
         self.read_blocks()
 
@@ -64,7 +69,7 @@ class Page:
 
     def read_blocks(self):
         """Computes every fenced block; `self.blocks` has, by its last line, the figures that it gives, and `self.examples` by its file."""
-        number, given, affine, example, mask, walks, code = 0, None, None, None, None, None, None
+        number, given, affine, example, mask, lists, code = 0, None, None, None, None, None, None
         while number < len(self.lines):
             kind, _, name = self.lines[number].removeprefix("```").partition(" ")
             if not self.lines[number].startswith("```"):
@@ -97,17 +102,20 @@ class Page:
                 (a, b, e), (g, h, f) = (map(int, line.split("\t")) for line in body.splitlines())
                 affine = moves.AffineMap(a, b, g, h, e, f)
             elif kind == "walks":
-                walks = page_walks.pair(*map(page_walks.points_in, body.splitlines()))
-                written = "".join(" ".join(map(str, walk)) + "\n" for walk in walks["walks"])
+                lists = page_walks.pair(*map(page_walks.points_in, body.splitlines()))
+                written = "".join(" ".join(map(str, walk)) + "\n" for walk in lists["walks"])
                 expect(body == written, self.at(number), f"the walks are\n{written}")
-                self.blocks[last] = {"walks": walks}
-                self.general.append(walks)
-            elif kind in page_code.SOURCES:
-                page_code.check(self.at(number), kind, body, walks)
+            elif kind == "points":
+                lists = page_thirds.block_figures(self.at(number), body)
+            elif kind in page_code.LANGUAGES:
+                page_code.check(self.at(number), kind, body, lists)
                 code = kind
             elif kind == "printed":
-                expect(body == page_code.printed(code, walks), self.at(number), f"not {page_code.printed(code, walks)}")
-            if kind in ("input", "output", "runs", "mask", "map", "walks", "printed", *page_code.SOURCES):
+                expect(body == page_code.printed(code, lists), self.at(number), f"not {page_code.printed(code, lists)}")
+            if kind in ("walks", "points"):
+                self.blocks[last] = {kind: lists}
+                self.general.append(lists)
+            if kind in ("input", "output", "runs", "mask", "map", "walks", "points", "printed", *page_code.LANGUAGES):
                 self.lines[number:last + 1] = [""] * (last + 1 - number)
             number = last + 1
 
@@ -144,7 +152,7 @@ class Page:
                 table.append([cell.strip() for cell in line.strip("|").split("|")])
                 if not self.lines[number + 1].startswith("|"):
                     self.table(number, table[0], table[1:], now)
-                if table[0] in ("edges", "loops", "trial", "answers", "cells", "moves", "mended", *ROWS):
+                if table[0] in ("edges", "loops", "trial", "answers", "moves", *ROWS):
                     continue
                 if table[0] in AS_TEXT:
                     line = "|".join(table[-1][AS_TEXT[table[0]]])
@@ -164,7 +172,8 @@ class Page:
         expect(right, self.at(number), f"not {claim}: {kinds}, {fields}")
 
     def spans(self, number, line, now):
-        """The code spans of a line; what is left of it has no digit."""
+        """The code spans of a line, and the units after them; what is left of it has no digit."""
+        page_units.check(self.at(number), line)
         rest = re.sub(r"\]\([^)]*\)|<!--.*?-->|`[^`]*`", "", line)
         expect(not re.search(r"\d", ALLOWED.sub("", rest)), self.at(number), f"a figure that nothing checks: {line.strip()[:100]}")
         for span in re.findall(r"`([^`]*)`", line):
@@ -201,7 +210,7 @@ class Page:
     def table_terms(self, number, rows, _):
         """The terms that the page gives, summed over the edges, are the totals of every outline."""
         self.terms = {row[0]: row[1].strip("`") for row in rows[2:]}
-        expect(tuple(self.terms) == exact.TOTALS, self.at(number), "other totals")
+        expect(tuple(self.terms) in (exact.TOTALS, exact.THIRD_TOTALS), self.at(number), "other totals")
         for known in self.general:
             for name, term in self.terms.items():
                 if name in known:
@@ -282,17 +291,7 @@ class Page:
             right = all(page_cells.gives_ground(name, term.strip("`"), formula.strip("`"), found) for found in regions)
             expect(right, self.at(number), f"not {name} of every region: {term}, {formula}")
 
-    def table_cells(self, number, rows, now):
-        """The cells of the named region in turn, each with the totals of its corners, and their sums."""
-        expected = page_cells.cell_rows([cell.strip("`") for cell in rows[0][1:]], now)
-        expect(rows[2:] == expected, self.at(number), f"the cells are {expected}")
-
     def table_regions(self, number, rows, _):
         """What the call on runs answers for each region, and the centre of its totals."""
         answered = [page_cells.region_row(*row[:2]) for row in rows[2:]]
         expect(rows[2:] == answered, self.at(number), f"the call answers {answered}")
-
-    def table_mended(self, number, rows, _):
-        """A list of runs, mended run by run until it is accepted, with the number and the index each time."""
-        expected = list(page_cells.mended_table())
-        expect(rows == expected, self.at(number), f"the table is {expected}")

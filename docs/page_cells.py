@@ -65,11 +65,15 @@ def fault(number, run, before):
     return "its row is lower than that of the run listed before it" if run.row < before.row else "it begins before the run listed before it ends"
 
 
-def mended_table():
-    """The table `mended`: the second program's five runs as they are, then with one more of them mended each time."""
-    yield ["Runs: row, first column, length", "Number", "Index", "What is wrong with the run at the index"]
-    yield ["---"] * 4
+def mended_rows(rows, _):
+    """The rows of `mended`: the second program's five runs as they are, then with one more of them mended each time."""
+    heads = ["Runs: row, first column, length", "Number", "Index", "What is wrong with the run at the index"]
+    expect(rows[0] == heads, "the table mended", f"the heads are {heads}")
     for runs in worked.mended_lists():
         number, index, _ = cells.region_totals(runs)
         wrong = fault(number, runs[index], runs[index - 1]) if number else "nothing: the list is accepted"
         yield [written(runs), str(number), str(index), wrong]
+
+
+ROWS = {"cells": lambda rows, now: cell_rows([cell.strip("`") for cell in rows[0][1:]], now),
+        "mended": lambda rows, now: list(mended_rows(rows, now))}

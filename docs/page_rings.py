@@ -6,6 +6,7 @@ import figures
 import text
 from differences import expect
 from rings import as_counted, rings_of
+from third_moments import third_moments
 
 
 def printed_figures(given, printed):
@@ -30,12 +31,16 @@ def printed_figures(given, printed):
 
 
 def list_figures(points):
-    """The exact figures of an outline in the direction of its list, and what the call on a whole list and that for the centre answer."""
-    number, totals = figures.list_call([each for point in points for each in point])
+    """The exact figures of an outline in the direction of its list, and what the call on a whole list and that for the centre
+    answer; where 35 does not refuse it, those of third order too."""
+    numbers = [each for point in points for each in point]
+    number, totals = figures.list_call(numbers)
     expect(number == 0, "a list", f"{points} is refused")
     refusal, x, y = figures.centre_of_totals(totals)
     centre = {"centre x": x, "centre y": y} if refusal == 0 else {}
-    return exact.outline_figures([points]) | dict(zip(exact.TOTALS, totals)) | centre | {"of": [points], "points": len(points)}
+    refusal, thirds = third_moments(numbers)
+    third_order = exact.third_figures([points]) | dict(zip(exact.THIRD_TOTALS, thirds)) if refusal == 0 else {}
+    return exact.outline_figures([points]) | dict(zip(exact.TOTALS, totals)) | centre | third_order | {"of": [points], "points": len(points)}
 
 
 def ring_input(points, is_hole):

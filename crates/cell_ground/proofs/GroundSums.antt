@@ -9,7 +9,7 @@ use Rattle.outline.specs.declared.Position.{Position}
 use Rattle.outline.specs.EdgeSums.{plus, openEdges, edges, sumOver, outlineTotals}
 use Rattle.outline.specs.ListCall.{points, numbers, wrongLength, listCall, accepted}
 use Rattle.outline.proofs.Every.{All}
-use Rattle.outline.proofs.Limits.{Inside, none-outside}
+use Rattle.outline.proofs.Limits.{Inside, none-beyond}
 use Rattle.outline.proofs.TotalsLaws.{totals-equal}
 use Rattle.cell_ground.specs.CellSums.{Cell, CellSums, cellTerms, plusSums, sumsOver}
 use Rattle.cell_ground.specs.Ground.{firstTotal, secondTotal, mixedTotal, groundTotals, groundOf, corners, squaresAdded}
@@ -65,7 +65,7 @@ corners-inside c g = ((omega (arith, g .column), omega (arith, g .row)), ((omega
 
 pub one-cell : OneCell
 unfolding wrongLength points numbers listCall
-one-cell c g = rw (none-outside 2000 (corners c) (corners-inside c g)) (ap accepted (square-totals (pos (c .x)) (pos (c .y))))
+one-cell c g = rw (none-beyond 2000 (corners c) (corners-inside c g)) (ap accepted (square-totals (pos (c .x)) (pos (c .y))))
 
 pub cell-by-cell : CellByCell
 unfolding groundOf sumsOver squaresAdded

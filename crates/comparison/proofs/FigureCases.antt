@@ -8,7 +8,7 @@ use lib.IntN.{ℤ}
 use lib.ListN.{length}
 use Rattle.outline.specs.declared.Totals.{Totals}
 use Rattle.outline.specs.ListCall.{Outcome, accepted, refused, points, anyOutside, listCall}
-use Rattle.outline.proofs.Limits.{none-outside}
+use Rattle.outline.proofs.Limits.{none-beyond}
 use Rattle.outline_answers.specs.declared.OutlineAnswer.{OutlineAnswer}
 use Rattle.outline_answers.specs.ListAnswer.{reading}
 use Rattle.two_walks.specs.Distances.{squaredHausdorff}
@@ -38,4 +38,4 @@ both-accepted zs ws e f g h k = rw (e, f, g, h, k)
 
 -- An accepted walk has points, and none of them is outside the limits.
 pub points-inside : (zs : List ℤ) {t : Totals} → listCall zs ≡ accepted t → (0 < length (points zs)) × (anyOutside (points zs) ≡ false)
-points-inside zs e = let taken = ap (λ o. o .number) e in (some-points zs taken, none-outside 2000 (points zs) (taken-outline zs taken .outline .inside))
+points-inside zs e = let taken = ap (λ o. o .number) e in (some-points zs taken, none-beyond 2000 (points zs) (taken-outline zs taken .outline .inside))

@@ -1,21 +1,26 @@
 -- The numbers that code computes with, each with a bound on its size, in one list; and what `SignedCode` says of code on them:
 --     add-sum c = fits (operands c) (search code depth 40) tt      -- this step fits
 --     returns c = is-plain (operands c) (search code depth 40) tt  -- the result is the plain expression
-use mathlib.Core.Path.{_≡_}
+use mathlib.Core.Path.{_≡_, _∙_}
 use mathlib.Core.List.{List, [], _∷_}
 use mathlib.Core.Bool.{Bool}
 use Prim.Native.Nat.{ℕ, _<_, _≤_, _^_}
 use lib.Dec.{T, leb, ltb}
 use lib.IntN.{ℤ, pos, natAbs}
-use lib.Signed.{_<ℤ_}
+use lib.Signed.{mag, _<ℤ_}
 use mir.Syntax.{Width, w64}
 use mir.Val.{SFits, hbits, toZ, ofZ}
+use mir.Facts.{toZ-ofZ}
 use Rattle.integers.proofs.Bounds.{Within}
 use Rattle.integers.proofs.SignedCode.{Code, plain, size, both, steps, runs, run-fits, run-within, run-divisor, Test, plainT, stepsT, tested}
 
 -- A number as code reads it back from an i64.
 abbrev pub i64 : ℤ → ℤ
 i64 z = toZ w64 (ofZ w64 z)
+
+-- What a call gives, kept in an i64, where it is known to be z, and z to be v.
+pub called : {r z v : ℤ} → z ≡ v → mag r < 2 ^ 63 → r ≡ z → i64 r ≡ v
+called f ok e = toZ-ofZ (record { sfits = ok }) ∙ e ∙ f
 
 pub record Sized : Type 0 where
   pub number : ℤ

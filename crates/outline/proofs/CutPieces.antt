@@ -39,6 +39,11 @@ can-be-made pieces c e =
       same = λ k h n. List·getD-append l (others c p ∷ []) [] k (lt-length-set pieces (c .piece) (kept c p) h) ∙ getD-set-other pieces (c .piece) k (kept c p) [] n;
     })
 
+-- Of one outline: the two pieces and no other.
+pub two-pieces : (ps : Piece) (c : Cut) → canCut (ps ∷ []) c ≡ true → piecesOf ps (c ∷ []) ≡ kept c ps ∷ others c ps ∷ []
+unfolding cutOnce cutAll
+two-pieces ps c e = let first : c .piece ≡ 0 = omega (arith, made (ps ∷ []) c e .0) in rw (e, first)
+
 pub cannot-be-made : (pieces : List Piece) (c : Cut) → canCut pieces c ≡ false → cutOnce pieces c ≡ pieces
 unfolding cutOnce
 cannot-be-made pieces c e = rw e

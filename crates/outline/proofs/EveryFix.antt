@@ -10,7 +10,7 @@ use Rattle.outline.specs.CallLists.{withPoint, ringWith}
 use Rattle.outline.specs.EveryOutline.{pointOrEntry}
 use Rattle.outline.specs.EveryFix.{fixOf, IsFixOf, EveryFix, asFix, OutlineByFixes}
 use Rattle.outline.proofs.Every.{all-of, all-member}
-use Rattle.outline.proofs.Limits.{Inside, outside-not, accepts-only-outlines}
+use Rattle.outline.proofs.Limits.{Inside, beyond-not, accepts-only-outlines}
 use Rattle.outline.proofs.EveryOutline.{Gives, by-calls}
 
 fix-of : (p : Position) → Inside p → IsFixOf p (fixOf p)
@@ -21,7 +21,7 @@ fix-of p h =
     record { east = x .held; north = y .held; finite = neither (x .finite) (y .finite); point = λ i. record { x = x .rounds i; y = y .rounds i } }
 
 pub every-fix : EveryFix
-every-fix p h = fix-of p (outside-not p h)
+every-fix p h = fix-of p (beyond-not p h)
 
 gives : (p : Position) → Inside p → Gives asFix p
 unfolding pointOrEntry ringWith

@@ -29,7 +29,7 @@ use Rattle.outline.specs.CallLists.{Call, begin, point, entry, end, aban
 use Rattle.outline.specs.EveryOutline.{answers, pointOrEntry, ringFrom, ringBy, Walkable, Room, endedWith, Ending, EveryOutline}
 use Rattle.outline.proofs.Every.{All, all-append, all-front, all-back, all-of, all-member, all-map}
 use Rattle.outline.proofs.TotalsLaws.{zeros-plus}
-use Rattle.outline.proofs.Limits.{Inside, not-outside, Outline, accepts-only-outlines, fit-exceed, limits-fit, accepted-fit}
+use Rattle.outline.proofs.Limits.{Inside, not-beyond, Outline, accepts-only-outlines, fit-exceed, limits-fit, accepted-fit}
 use Rattle.outline.proofs.TurnedTotals.{zero-zeroArea, area-zeroArea, turned-exceed}
 use Rattle.outline.proofs.Refusals.{end-32}
 use Rattle.outline.proofs.EntryLaws.{finite-fix}
@@ -73,7 +73,7 @@ record Points (ps : List Position) : Type 0 where
 point-answer : (g : Ring) → Sound g → (p : Position) → Points (g .points ++ p ∷ []) → pointCall (walkOf g) p ≡ record { number = 0; walk = walkOf (withPoint g p) }
 unfolding pointCall
 point-answer g h p i =
-    rw (possible-walk g h, not-outside p (all-back Inside (g .points) (p ∷ []) (i .inside) .0), lt-leb 1024 (length (g .points)) (omega (arith, i .few, length-append (g .points) (p ∷ []))), extended-is g p)
+    rw (possible-walk g h, not-beyond p (all-back Inside (g .points) (p ∷ []) (i .inside) .0), lt-leb 1024 (length (g .points)) (omega (arith, i .few, length-append (g .points) (p ∷ []))), extended-is g p)
 
 with-point : (g : Ring) → Sound g → (p : Position) → Points (g .points ++ p ∷ []) → Sound (withPoint g p)
 with-point g h p i = record { few = i .few; inside = i .inside; usable = h .usable }

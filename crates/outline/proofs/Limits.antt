@@ -54,27 +54,27 @@ tested n z h = sized z (over-not n z h)
 pub never-over : (l : List Sized) (K : ℕ) {z : ℤ} (k : Code (sizedNumbers l) z) → T (both (leb (size (bounds l) k) K) (steps (bounds l) k)) → over K z ≡ false
 never-over l K {z} k t = not-over K z (at-most l k t)
 
-pub outside-not : {n : ℕ} (p : Position) → beyond n p ≡ false → InsideOf n p
+pub beyond-not : {n : ℕ} (p : Position) → beyond n p ≡ false → InsideOf n p
 unfolding beyond
-outside-not {n} p e = (over-not n (p .x) (or-left (over n (p .x)) (over n (p .y)) e), over-not n (p .y) (or-right (over n (p .x)) (over n (p .y)) e))
+beyond-not {n} p e = (over-not n (p .x) (or-left (over n (p .x)) (over n (p .y)) e), over-not n (p .y) (or-right (over n (p .x)) (over n (p .y)) e))
 
-pub not-outside : {n : ℕ} (p : Position) → InsideOf n p → beyond n p ≡ false
+pub not-beyond : {n : ℕ} (p : Position) → InsideOf n p → beyond n p ≡ false
 unfolding beyond
-not-outside {n} p h = neither (not-over n (p .x) (h .0)) (not-over n (p .y) (h .1))
+not-beyond {n} p h = neither (not-over n (p .x) (h .0)) (not-over n (p .y) (h .1))
 
 pub all-inside : (n : ℕ) (ps : List Position) → anyBeyond n ps ≡ false → All (InsideOf n) ps
 unfolding anyBeyond
 all-inside n [] e = tt
-all-inside n (p ∷ ps) e = (outside-not p (or-left (beyond n p) (anyBeyond n ps) e), all-inside n ps (or-right (beyond n p) (anyBeyond n ps) e))
+all-inside n (p ∷ ps) e = (beyond-not p (or-left (beyond n p) (anyBeyond n ps) e), all-inside n ps (or-right (beyond n p) (anyBeyond n ps) e))
 
-pub none-outside : (n : ℕ) (ps : List Position) → All (InsideOf n) ps → anyBeyond n ps ≡ false
+pub none-beyond : (n : ℕ) (ps : List Position) → All (InsideOf n) ps → anyBeyond n ps ≡ false
 unfolding anyBeyond
-none-outside n [] h = refl
-none-outside n (p ∷ ps) h = neither (not-outside p (h .0)) (none-outside n ps (h .1))
+none-beyond n [] h = refl
+none-beyond n (p ∷ ps) h = neither (not-beyond p (h .0)) (none-beyond n ps (h .1))
 
 -- Each point of a list that has none outside, by its index.
 pub point-inside : (n : ℕ) (ps : List Position) (k : ℕ) {p : Position} → anyBeyond n ps ≡ false → k < length ps → p ≡ getD ps k origin → beyond n p ≡ false
-point-inside n ps k e h f = rw f (not-outside (getD ps k origin) (all-at (InsideOf n) ps k origin (all-inside n ps e) h))
+point-inside n ps k e h f = rw f (not-beyond (getD ps k origin) (all-at (InsideOf n) ps k origin (all-inside n ps e) h))
 
 -- ---- what the list call accepts
 
@@ -114,7 +114,7 @@ accepts-only-outlines zs t e = go (eqb (length zs % 2) 1) (ltb (length (points z
 -- and every outline.
 pub accepts-outlines : (zs : List ℤ) → OutlineList zs → listCall zs ≡ accepted (outlineTotals (points zs))
 unfolding listCall wrongLength
-accepts-outlines zs o = rw (ne-eqb (length zs % 2) 1 (o .even), le-ltb (length (points zs)) 3 (o .outline .enough), le-ltb 1024 (length (points zs)) (o .outline .few), none-outside 2000 (points zs) (o .outline .inside))
+accepts-outlines zs o = rw (ne-eqb (length zs % 2) 1 (o .even), le-ltb (length (points zs)) 3 (o .outline .enough), le-ltb 1024 (length (points zs)) (o .outline .few), none-beyond 2000 (points zs) (o .outline .inside))
 
 -- The same for a list of points.
 pub accepts-points : (ps : List Position) → Outline ps → listCall (numbers ps) ≡ accepted (outlineTotals ps)

@@ -17,7 +17,7 @@ use Rattle.outline.specs.Pieces.{Piece, Cut, cutAll, piecesOf, startAt, 
 use Rattle.outline.specs.PiecesAddUp.{AddUpMoved}
 use Rattle.outline.proofs.TotalsLaws.{plus-zeros}
 use Rattle.outline.proofs.IndexLaws.{points-numbers}
-use Rattle.outline.proofs.Limits.{none-outside, accepts-only-outlines}
+use Rattle.outline.proofs.Limits.{none-beyond, accepts-only-outlines}
 use Rattle.outline.proofs.MapLaw.{map-accepts}
 use Rattle.outline.proofs.PiecesAddUp.{pieces-add-up}
 
@@ -87,7 +87,7 @@ first-start (p ∷ pieces) = ap₂ {C = List Piece} (λ b l. b ∷ l) (append-ni
 
 module _ (zs : List ℤ) (t : Totals) (taken : listCall zs ≡ accepted t) where
   identity-bounds : anyOutside (moved identity (points zs)) ≡ false
-  identity-bounds = ap anyOutside (map-same (movePoint identity) identity-point (points zs)) ∙ none-outside 2000 (points zs) (accepts-only-outlines zs t taken .0 .outline .inside)
+  identity-bounds = ap anyOutside (map-same (movePoint identity) identity-point (points zs)) ∙ none-beyond 2000 (points zs) (accepts-only-outlines zs t taken .0 .outline .inside)
 
   identity-answer : mapCall identity t ≡ accepted t
   identity-answer =

@@ -21,7 +21,7 @@ use Rattle.integers.proofs.Flags.{neither}
 use Rattle.receiver.specs.Floats.{plusZero}
 use Rattle.outline.proofs.Every.{All, all-at}
 use Rattle.outline.proofs.IndexLaws.{totals-snoc}
-use Rattle.outline.proofs.Limits.{Inside, not-outside, fit-exceed, open-fit}
+use Rattle.outline.proofs.Limits.{Inside, not-beyond, fit-exceed, open-fit}
 use Rattle.outline.proofs.Outages.{longest-snoc, Usable, zero-usable, longest-usable}
 
 -- ---- one point more, one outage more, and the closing edge
@@ -62,7 +62,7 @@ closed-is g h = closed-by (g .kind) (g .points) (longestAfter plusZero (g .outag
 
 ends-inside : (ps : List Position) → All Inside ps → (not (eqb (length ps) 0) && (outside (firstOf ps) || outside (lastOf ps))) ≡ false
 ends-inside [] h = refl
-ends-inside (a ∷ ps) h = rw (eqb·suc-zero (length ps)) (neither (not-outside a (h .0)) (not-outside (lastOf (a ∷ ps)) (all-at Inside (a ∷ ps) (length ps) origin h (omega arith))))
+ends-inside (a ∷ ps) h = rw (eqb·suc-zero (length ps)) (neither (not-beyond a (h .0)) (not-beyond (lastOf (a ∷ ps)) (all-at Inside (a ∷ ps) (length ps) origin h (omega arith))))
 
 -- What calls keep of a ring.
 pub record Sound (g : Ring) : Type 0 where

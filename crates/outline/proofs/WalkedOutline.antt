@@ -23,7 +23,7 @@ use Rattle.outline.specs.PiecesAddUp.{AddUpMoved}
 use Rattle.outline.specs.WalkedOutline.{Closable, WalkedOutline, WalkedPieces}
 use Rattle.outline.proofs.Every.{All, all-append}
 use Rattle.outline.proofs.IndexLaws.{points-numbers}
-use Rattle.outline.proofs.Limits.{Inside, outside-not, Outline, accepts-points, accepted-within}
+use Rattle.outline.proofs.Limits.{Inside, beyond-not, Outline, accepts-points, accepted-within}
 use Rattle.outline.proofs.PiecesAddUp.{pieces-add-up}
 use Rattle.outline.proofs.CallCases as Case
 use Rattle.outline.proofs.CallCases.{Extends, TakesOutage, Taken, begun, extends, fixes, takes-outage, ends, abandoned}
@@ -50,7 +50,7 @@ point-keeps (walking g h) p e =
     (walking (withPoint g p)
     (record {
       few = omega (arith, length-append (g .points) (p ∷ []), e .room);
-      inside = all-append Inside (g .points) (p ∷ []) (h .inside) (outside-not p (e .inside), tt);
+      inside = all-append Inside (g .points) (p ∷ []) (h .inside) (beyond-not p (e .inside), tt);
       usable = h .usable;
     }))
 

@@ -1,1 +1,1 @@
-mod OutsideSteps
+mod BeyondSteps

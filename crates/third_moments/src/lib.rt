@@ -17,7 +17,7 @@ pub enum ThirdAnswer {
     Accepted(ThirdTotals),
     WrongLength,
     OutsideLimits,
-    BeyondThirdLimit,
+    TooFarForThirdMoments,
 }
 
 // The totals of a refusal.
@@ -36,7 +36,7 @@ impl ThirdAnswer {
             ThirdAnswer::Accepted(_) => 0,
             ThirdAnswer::WrongLength => 2,
             ThirdAnswer::OutsideLimits => 1,
-            ThirdAnswer::BeyondThirdLimit => 35,
+            ThirdAnswer::TooFarForThirdMoments => 35,
         }
     }
 
@@ -48,7 +48,7 @@ impl ThirdAnswer {
             ThirdAnswer::Accepted(totals) => totals,
             ThirdAnswer::WrongLength => no_thirds(),
             ThirdAnswer::OutsideLimits => no_thirds(),
-            ThirdAnswer::BeyondThirdLimit => no_thirds(),
+            ThirdAnswer::TooFarForThirdMoments => no_thirds(),
         }
     }
 }
@@ -64,7 +64,7 @@ pub fn third_moments(points: &[i32]) -> ThirdAnswer
         return ThirdAnswer::OutsideLimits;
     }
     if any_beyond(points, 500) {
-        return ThirdAnswer::BeyondThirdLimit;
+        return ThirdAnswer::TooFarForThirdMoments;
     }
     ThirdAnswer::Accepted(sum_edges(points))
 }

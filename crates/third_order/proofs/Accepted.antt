@@ -9,7 +9,7 @@ use Rattle.outline.specs.EdgeSums.{outlineTotals}
 use Rattle.outline.specs.ListCall.{accepted, refused, points, numbers, anyBeyond, anyOutside, wrongLength, listCall}
 use Rattle.outline.proofs.Every.{All, all-of, all-member}
 use Rattle.outline.proofs.IndexLaws.{points-numbers}
-use Rattle.outline.proofs.Limits.{Inside, InsideOf, OutlineIn, Outline, all-inside, none-outside, accepts-only-outlines, accepts-points}
+use Rattle.outline.proofs.Limits.{Inside, InsideOf, OutlineIn, Outline, all-inside, none-beyond, accepts-only-outlines, accepts-points}
 use Rattle.third_order.specs.declared.ThirdTotals.{ThirdTotals}
 use Rattle.third_order.specs.ThirdTerms.{thirdTotals}
 use Rattle.third_order.specs.ThirdCall.{ThirdOutcome, acceptedThirds, refusedThirds, thirdLimit, thirdCall}
@@ -44,7 +44,7 @@ of-taken zs = go (wrongLength zs) (anyOutside (points zs))
 
 -- The call accepts every such outline,
 pub accepts-small : (ps : List Position) → SmallOutline ps → thirdCall (numbers ps) ≡ acceptedThirds (thirdTotals ps)
-accepts-small ps o = of-taken (numbers ps) (ap (λ r. r .number) (accepts-points ps (is-outline ps o))) ∙ rw (points-numbers ps, none-outside thirdLimit ps (o .inside))
+accepts-small ps o = of-taken (numbers ps) (ap (λ r. r .number) (accepts-points ps (is-outline ps o))) ∙ rw (points-numbers ps, none-beyond thirdLimit ps (o .inside))
 
 -- and nothing else.
 pub accepts-only-small : (zs : List ℤ) (t : ThirdTotals) → thirdCall zs ≡ acceptedThirds t → SmallOutline (points zs) × (t ≡ thirdTotals (points zs))
@@ -63,4 +63,4 @@ accepts-only-small zs t = go (wrongLength zs) (anyOutside (points zs)) (anyBeyon
 -- A list that passes the tests of 2 and 35 passes that of 1.
 pub small-list : (zs : List ℤ) → wrongLength zs ≡ false → anyBeyond thirdLimit (points zs) ≡ false → SmallOutline (points zs)
 unfolding thirdCall
-small-list zs e f = accepts-only-small zs (thirdTotals (points zs)) (rw (e, none-outside 2000 (points zs) (all-wider (points zs) (all-inside thirdLimit (points zs) f)), f)) .0
+small-list zs e f = accepts-only-small zs (thirdTotals (points zs)) (rw (e, none-beyond 2000 (points zs) (all-wider (points zs) (all-inside thirdLimit (points zs) f)), f)) .0

@@ -1,14 +1,13 @@
 -- Document 02, CR 10: refusals, and the laws of a start, of the opposite order and of one cut: specs/ThirdLaws. The last three are cases of the theorem on a whole list of cuts.
 use mathlib.Core.Path.{_≡_, refl, sym, _∙_, ap, subst}
 use mathlib.Core.Bool.{Bool, true, false, cond, false≢true}
-use mathlib.Core.List.{List, [], _∷_, List·Memᴰ·head}
+use mathlib.Core.List.{List, [], _∷_, List·Memᴰ·head, List·Memᴰ·tail}
 use native.Mathlib.Omega.{arith}
 use lib.IntN.{+ℤ-idr}
-use Rattle.outline.specs.declared.Position.{Position}
 use Rattle.outline.specs.EdgeSums.{outlineTotals}
 use Rattle.outline.specs.ListCall.{accepted, refused, points, anyBeyond, anyOutside, wrongLength, listCall}
-use Rattle.outline.specs.Pieces.{Cut, canCut, kept, others, cutOnce, cutAll, piecesOf, startAt, forwards, walked, placed}
-use Rattle.outline.proofs.CutTest.{made}
+use Rattle.outline.specs.Pieces.{kept, others, cutAll, piecesOf, startAt, forwards, walked, placed}
+use Rattle.outline.proofs.CutPieces.{two-pieces}
 use Rattle.outline.proofs.PiecesLaws.{first-start}
 use Rattle.third_order.specs.declared.ThirdTotals.{ThirdTotals}
 use Rattle.third_order.specs.ThirdTerms.{thirdTotals, noThirds, plusThirds}
@@ -41,13 +40,12 @@ third-starts zs t e s w =
     let p = startAt s (walked w (points zs)) in
     r .accepts p (List·Memᴰ·head refl) ∙ ap acceptedThirds (sym (plus-none (thirdsOf p)) ∙ r .sum)
 
--- The two pieces of one cut.
-two-pieces : (ps : List Position) (c : Cut) → canCut (ps ∷ []) c ≡ true → piecesOf ps (c ∷ []) ≡ kept c ps ∷ others c ps ∷ []
-unfolding cutOnce cutAll
-two-pieces ps c e = let first : c .piece ≡ 0 = omega (arith, made (ps ∷ []) c e .0) in rw (e, first)
-
 pub third-cut : ThirdCut
 unfolding sumOfThirds directedThirds
 third-cut zs t e c can =
     let r = subst (ThirdsAddUp forwards t) (first-start (piecesOf (points zs) (c ∷ [])) ∙ two-pieces (points zs) c can) (third-pieces-add-up zs t e (c ∷ []) (λ k. 0) forwards) in
-    ap (plusThirds (thirdsOf (kept c (points zs)))) (sym (plus-none (thirdsOf (others c (points zs))))) ∙ r .sum
+    record {
+      kept-accepted = r .accepts (kept c (points zs)) (List·Memᴰ·head refl);
+      others-accepted = r .accepts (others c (points zs)) (List·Memᴰ·tail (List·Memᴰ·head refl));
+      sum = ap (plusThirds (thirdsOf (kept c (points zs)))) (sym (plus-none (thirdsOf (others c (points zs))))) ∙ r .sum;
+    }

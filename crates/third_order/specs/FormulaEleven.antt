@@ -1,10 +1,14 @@
 -- Formula 11 of source document 001, which gives the edge term of every moment, and what the edge terms of documents 01 and 02 are of it. proofs/FormulaEleven has the proof.
 use Prim.Native.Nat.{ℕ, zero, suc, _+_, _*_, _-_, _/_, _%_}
 use mathlib.Core.Path.{_≡_}
+use mathlib.Core.List.{List}
 use lib.IntN.{ℤ, pos, _+ℤ_, _*ℤ_}
 use Rattle.outline.specs.declared.Position.{Position}
-use Rattle.outline.specs.EdgeSums.{Term, cross, a2, x6, y6, xx12, xy24, yy12}
+use Rattle.outline.specs.EdgeSums.{Term, cross, a2, x6, y6, xx12, xy24, yy12, Edge, edges, sumOver}
+use Rattle.outline.specs.ListCall.{points}
+use Rattle.third_order.specs.declared.ThirdTotals.{ThirdTotals}
 use Rattle.third_order.specs.ThirdTerms.{xxx20, xxy60, xyy60, yyy20}
+use Rattle.third_order.specs.ThirdCall.{acceptedThirds, thirdCall}
 
 -- ---- the formula
 
@@ -27,7 +31,7 @@ unfoldable pub sumTo : ℕ → (ℕ → ℤ) → ℤ
 sumTo zero f = f 0
 sumTo (suc n) f = sumTo n f +ℤ f (suc n)
 
--- The fraction in the braces, for the moment of x^p y^q times m: what stands above the bar, and below.
+-- The two fractions in the braces as one, for the moment of x^p y^q times m: what stands above the bar, and below.
 abbrev pub above : ℕ → ℕ → ℕ → ℕ → ℕ → ℕ
 above m p q j k = m * (choose p j * choose q k) * factorial (p + q)
 
@@ -38,6 +42,10 @@ below p q j k = choose (p + q) (j + k) * factorial (p + q + 2)
 unfoldable pub eleven : ℕ → ℕ → ℕ → Term
 eleven m p q a b =
     cross a b *ℤ sumTo p (λ j. sumTo q (λ k. pos (above m p q j k / below p q j k) *ℤ power (a .x) j *ℤ power (b .x) (p - j) *ℤ power (a .y) k *ℤ power (b .y) (q - k)))
+
+-- The four totals by the formula, over a list of edges.
+abbrev pub formulaTotals : List Edge → ThirdTotals
+formulaTotals es = record { xxx20 = sumOver (eleven 20 3 0) es; xxy60 = sumOver (eleven 60 2 1) es; xyy60 = sumOver (eleven 60 1 2) es; yyy20 = sumOver (eleven 20 0 3) es }
 
 -- ---- what is claimed
 
@@ -59,3 +67,14 @@ pub record FormulaEleven : Type 0 where
   pub xx : IsEleven xx12 12 2 0
   pub xy : IsEleven xy24 24 1 1
   pub yy : IsEleven yy12 12 0 2
+
+abbrev pub CallByFormula : Type 0
+CallByFormula =
+    -- For every list of numbers
+    (zs : List ℤ)
+    -- and the four totals
+    (t : ThirdTotals)
+    -- with which the call accepts it:
+    → thirdCall zs ≡ acceptedThirds t
+    -- they are the formula's sums over the edges of the outline, for x³, x²y, xy² and y³.
+    → t ≡ formulaTotals (edges (points zs))

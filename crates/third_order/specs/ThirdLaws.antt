@@ -6,7 +6,7 @@ use mathlib.Core.List.{List, [], _∷_}
 use mathlib.Core.Logic.{_≢_, _↔_}
 use lib.IntN.{ℤ, natAbs}
 use Rattle.outline.specs.ListCall.{points, numbers, anyBeyond, listCall}
-use Rattle.outline.specs.Pieces.{Cut, canCut, kept, others, startAt, Direction, walked}
+use Rattle.outline.specs.Pieces.{Piece, Cut, canCut, kept, others, startAt, Direction, walked}
 use Rattle.third_order.specs.declared.ThirdTotals.{ThirdTotals}
 use Rattle.third_order.specs.ThirdTerms.{noThirds, plusThirds}
 use Rattle.third_order.specs.ThirdCall.{ThirdOutcome, acceptedThirds, thirdCall}
@@ -65,6 +65,14 @@ ThirdStarts =
     -- the outline so walked and started is accepted with the same totals, with all four signs turned if walked backwards.
     → thirdCall (numbers (startAt s (walked direction (points zs)))) ≡ acceptedThirds (directedThirds direction t)
 
+-- What is claimed of an outline with the totals t that is cut in two.
+pub record CutInTwo (kept others : Piece) (t : ThirdTotals) : Type 0 where
+  -- Both pieces are accepted,
+  pub kept-accepted : thirdCall (numbers kept) ≡ acceptedThirds (thirdsOf kept)
+  pub others-accepted : thirdCall (numbers others) ≡ acceptedThirds (thirdsOf others)
+  -- and their totals add up to those of the outline.
+  pub sum : plusThirds (thirdsOf kept) (thirdsOf others) ≡ t
+
 abbrev pub ThirdCut : Type 0
 ThirdCut =
     -- For every list of numbers
@@ -77,5 +85,5 @@ ThirdCut =
     → (c : Cut)
     -- that can be made:
     → canCut (points zs ∷ []) c ≡ true
-    -- the totals of the two pieces add up to those of the outline.
-    → plusThirds (thirdsOf (kept c (points zs))) (thirdsOf (others c (points zs))) ≡ t
+    -- the claim holds of its two pieces.
+    → CutInTwo (kept c (points zs)) (others c (points zs)) t

@@ -1,8 +1,6 @@
 -- `bracket_totals` puts the six brackets together. The map's numbers are widened to i64, and keep their values and bounds.
-use mathlib.Core.Path.{_≡_, _∙_}
-use Prim.Native.Nat.{_<_, _^_}
+use mathlib.Core.Path.{_≡_}
 use lib.IntN.{ℤ}
-use lib.Signed.{mag}
 use mir.Syntax.{w32, w64}
 use mir.Val.{SFits, toZ, ofZ}
 use mir.Facts.{toZ-ofZ}
@@ -11,6 +9,7 @@ use Rattle.outline.specs.declared.Totals.{Totals}
 use Rattle.outline.specs.declared.AffineMap.{AffineMap}
 use Rattle.outline.specs.MapCall.{firstMoment, secondMoment, mixedMoment}
 use Rattle.affine.specs.private.Limits.{RowWithin}
+use Rattle.integers.proofs.SizedNumbers.{called}
 use Rattle.integers.proofs.Widening.{widens, widened}
 use Rattle.limits.proofs.Fields.{TotalsFit}
 use Rattle.affine.proofs.Fields.{MapFit}
@@ -74,10 +73,6 @@ row-is f p q r i = f (widened p i) (widened q i) (widened r i)
 mixed-is : {m : AffineMap} (t : Totals) → MapFit m → mixedMoment (wide (m .a)) (wide (m .b)) (wide (m .e)) (wide (m .g)) (wide (m .h)) (wide (m .f)) t ≡ mixedMoment (m .a) (m .b) (m .e) (m .g) (m .h) (m .f) t
 mixed-is t k i = mixedMoment (widened (k .a) i) (widened (k .b) i) (widened (k .e) i) (widened (k .g) i) (widened (k .h) i) (widened (k .f) i) t
 
--- a field that is the result r of a call
-called : {r x y : ℤ} → x ≡ y → r ≡ x → mag r < 2 ^ 63 → toZ w64 (ofZ w64 r) ≡ y
-called f e h = toZ-ofZ (record { sfits = h }) ∙ e ∙ f
-
 returns : tie.Need-returns
 returns c =
     let at-yy12 = c .before in
@@ -90,11 +85,11 @@ returns c =
     let k = fit s in
     λ i. record {
       a2 = toZ-ofZ (fit-totals s .a2) i;
-      x6 = called (row-is (λ a b e. firstMoment a b e t) (k .a) (k .b) (k .e)) (at-x6 .first-moment .ensures) (at-x6 .first-moment .ok) i;
-      y6 = called (row-is (λ a b e. firstMoment a b e t) (k .g) (k .h) (k .f)) (at-y6 .first-moment2 .ensures) (at-y6 .first-moment2 .ok) i;
-      xx12 = called (row-is (λ a b e. secondMoment a b e t) (k .a) (k .b) (k .e)) (at-xx12 .second-moment .ensures) (at-xx12 .second-moment .ok) i;
-      xy24 = called (mixed-is t k) (at-xy24 .mixed-moment .ensures) (at-xy24 .mixed-moment .ok) i;
-      yy12 = called (row-is (λ a b e. secondMoment a b e t) (k .g) (k .h) (k .f)) (at-yy12 .second-moment2 .ensures) (at-yy12 .second-moment2 .ok) i;
+      x6 = called (row-is (λ a b e. firstMoment a b e t) (k .a) (k .b) (k .e)) (at-x6 .first-moment .ok) (at-x6 .first-moment .ensures) i;
+      y6 = called (row-is (λ a b e. firstMoment a b e t) (k .g) (k .h) (k .f)) (at-y6 .first-moment2 .ok) (at-y6 .first-moment2 .ensures) i;
+      xx12 = called (row-is (λ a b e. secondMoment a b e t) (k .a) (k .b) (k .e)) (at-xx12 .second-moment .ok) (at-xx12 .second-moment .ensures) i;
+      xy24 = called (mixed-is t k) (at-xy24 .mixed-moment .ok) (at-xy24 .mixed-moment .ensures) i;
+      yy12 = called (row-is (λ a b e. secondMoment a b e t) (k .g) (k .h) (k .f)) (at-yy12 .second-moment2 .ok) (at-yy12 .second-moment2 .ensures) i;
     }
 
 pub bracket-totals-spec : {M : Type 1} → statement M

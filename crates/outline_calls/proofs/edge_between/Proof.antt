@@ -1,19 +1,16 @@
 -- `outline_calls::edge_between` meets its contract. The four coordinates are at most 2,000 in size, so every step fits 64 bits: a computed test.
-use mathlib.Core.Path.{_≡_, _∙_}
+use mathlib.Core.Path.{_≡_}
 use mathlib.Core.Bool.{false}
 use mathlib.Core.List.{List, [], _∷_}
-use Prim.Native.Nat.{_<_, _^_}
 use lib.IntN.{ℤ, _-ℤ_, _*ℤ_}
-use lib.Signed.{mag}
 use mir.Syntax.{w32, w64}
 use mir.Val.{toZ, ofZ}
-use mir.Facts.{toZ-ofZ}
 use Rattle.integers.proofs.Bounds.{Within}
 use Rattle.integers.proofs.SignedCode.{code}
-use Rattle.integers.proofs.SizedNumbers.{i64, Sized, sized, fits, is-plain}
+use Rattle.integers.proofs.SizedNumbers.{i64, called, Sized, sized, fits, is-plain}
 use Rattle.outline.specs.declared.Position.{Position}
 use Rattle.outline.specs.EdgeSums.{cross, x6, y6, xx12, xy24, yy12, over}
-use Rattle.outline.proofs.Limits.{never-over, outside-not}
+use Rattle.outline.proofs.Limits.{never-over, beyond-not}
 use Rattle.outline.proofs.TotalsLaws.{totals-equal}
 use Rattle.outline_calls.specs.private.Terms.{firstTerm, secondTerm, mixedTerm}
 use Rattle.outline_calls.proofs.edge_between.Statement.{statement}
@@ -26,10 +23,6 @@ cast z = i64 (toZ w32 (ofZ w32 z))
 abbrev made : Position → Position → ℤ
 made a b = i64 (i64 (cast (a .x) *ℤ cast (b .y)) -ℤ i64 (cast (b .x) *ℤ cast (a .y)))
 
--- A field that is the result r of a call.
-called : {r z v : ℤ} → z ≡ v → mag r < 2 ^ 63 → r ≡ z → i64 r ≡ v
-called f ok e = toZ-ofZ (record { sfits = ok }) ∙ e ∙ f
-
 module _ (s : tie.Start) where
   abbrev a : Position
   a = s .args .a
@@ -39,8 +32,8 @@ module _ (s : tie.Start) where
 
   inside : Within (a .x ∷ a .y ∷ b .x ∷ b .y ∷ []) (2000 ∷ 2000 ∷ 2000 ∷ 2000 ∷ [])
   inside =
-      let from = outside-not a (s .pre .0) in
-      let to = outside-not b (s .pre .1) in
+      let from = beyond-not a (s .pre .0) in
+      let to = beyond-not b (s .pre .1) in
       (from .0, (from .1, (to .0, (to .1, tt))))
 
   abbrev operands : List Sized

@@ -11,7 +11,7 @@ use mir.Syntax.{w32}
 use mir.Val.{toZ, ofZ}
 use Rattle.outline.specs.ListCall.{points as pointsOf}
 use Rattle.outline.proofs.IndexLaws.{length-points}
-use Rattle.point_list.proofs.OutsideSteps.{anyOver, over-next, over-pairs}
+use Rattle.point_list.proofs.BeyondSteps.{anyOver, over-next, over-pairs}
 use Rattle.point_list.proofs.any_beyond.Statement.{statement}
 use Rattle.point_list.proofs.any_beyond.Tie as tie
 

@@ -4,7 +4,7 @@ use mathlib.Core.List.{List, [], _∷_}
 use Rattle.integers.proofs.SignedCode.{code}
 use Rattle.integers.proofs.SizedNumbers.{Sized, sized, fits, is-plain}
 use Rattle.outline.specs.declared.Position.{Position}
-use Rattle.outline.proofs.Limits.{outside-not}
+use Rattle.outline.proofs.Limits.{beyond-not}
 use Rattle.comparison.proofs.DistanceSteps.{distance-is}
 use Rattle.comparison.proofs.distances.squared_distance.Statement.{statement}
 use Rattle.comparison.proofs.distances.squared_distance.Tie as tie
@@ -18,8 +18,8 @@ module _ (s : tie.Start) where
 
   abbrev operands : List Sized
   operands =
-      let from = outside-not p (s .pre .0) in
-      let to = outside-not q (s .pre .1) in
+      let from = beyond-not p (s .pre .0) in
+      let to = beyond-not q (s .pre .1) in
       sized (p .x) (from .0) ∷ sized (p .y) (from .1) ∷ sized (q .x) (to .0) ∷ sized (q .y) (to .1) ∷ []
 
 -- Where x is read of both points, and where y is.
