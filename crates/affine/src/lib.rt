@@ -1,4 +1,6 @@
 // The map call on six totals: document 01, "Maps", with refusals 3, 4 and 5.
+#![tactic(auto)]
+
 ghost use Rattle.std.specs.Prelude.{◌≡◌, ◌+ℤ◌, ◌*ℤ◌};
 ghost use Rattle.outline.specs.EdgeSums.{over, exceed, outline_bounds};
 ghost use Rattle.outline.specs.private.Fit.{Fit};

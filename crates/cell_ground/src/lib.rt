@@ -1,4 +1,6 @@
 // Document 02, CR 2: the totals of the ground under cells of one row. Those of a mask are added up of them.
+#![tactic(auto)]
+
 ghost use Rattle.std.specs.Prelude.{◌≡◌, pos};
 ghost use Rattle.cell_ground.specs.Ground.{ground_totals, row_sums};
 

@@ -1,4 +1,6 @@
 // Document 01, "Cells", and document 02, CR 2: the totals of the ground under a region, over the runs that a caller lends. Time goes by the number of runs, not of cells.
+#![tactic(auto)]
+
 ghost use Rattle.std.specs.Prelude.{◌≡◌, not, ◌^◌, get_or};
 ghost use Rattle.cell_ground.specs.CellSums.{plus_sums};
 ghost use Rattle.cell_ground.specs.Ground.{ground_totals};

@@ -1,4 +1,6 @@
 // The centre of six totals: an exact quotient, rounded to a whole number with halves up.
+#![tactic(auto)]
+
 ghost use Rattle.std.specs.Prelude.{◌≡◌};
 ghost use Rattle.integers.specs.Rounding.{round_half_up};
 ghost use Rattle.centroid.specs.Centroid.{centred, outline_centroid_call};

@@ -1,4 +1,6 @@
 // The line at a place of a chunk, in the definition's order: its form is read, 10's limits are tested, then it is carried out. For every state, chunk and place.
+#![tactic(auto)]
+
 mod parts;
 
 ghost use Rattle.std.specs.Prelude.{drop};

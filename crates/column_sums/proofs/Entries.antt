@@ -11,6 +11,7 @@ use Rattle.column_sums.specs.AnnexLaws.{EveryEntry, PastTheEnd}
 
 at_place : (k n i : ℕ) → i < n → get_or (entries_from k n) i 0 ≡ square_sum (k + i)
 unfolding entries_from
+at_place k zero i h = elim h [ ]
 at_place k (suc n) zero h = ap square_sum (omega arith)
 at_place k (suc n) (suc i) h = at_place (suc k) n i (omega arith) ∙ ap square_sum (omega arith)
 

@@ -1,4 +1,6 @@
 // Document 02, CR 5: the figures of two walks of one plot, each a lent list of numbers, x and y in turn, that is read in place.
+#![tactic(auto)]
+
 ghost use Rattle.std.specs.Prelude.{◌≡◌};
 ghost use Rattle.two_walks.specs.Comparison.{no_figures};
 ghost use Rattle.comparison.specs.Answer.{reading};

@@ -1,4 +1,6 @@
 // The comparison of two walks answered as a number and a buffer: 0; or the number of a refusal, with ten zeros; or 100 where the buffer is too short.
+#![tactic(auto)]
+
 ghost use Rattle.std.specs.Prelude.{◌≡◌, cond, ltb, pos, length};
 ghost use Rattle.two_walks.specs.Comparison.{figures_call, part_of};
 ghost use Rattle.comparison_replies.specs.ComparisonReply.{comparison_reply};

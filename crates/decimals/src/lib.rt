@@ -1,4 +1,6 @@
 // Numbers as decimal digits, written into a buffer that the caller lends; whether the buffer has room; the absolute value of a number.
+#![tactic(auto)]
+
 mod digits;
 
 ghost use Rattle.std.specs.Prelude.{◌≡◌, ◌+◌, ◌≤◌, ltb, pos, nat_abs, length};

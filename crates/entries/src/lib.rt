@@ -1,4 +1,6 @@
 // An entry of a receiver given to a walk (document 02, CR 9), by value: a fix is a point call with the rounded point, an outage may lengthen the walk's longest.
+#![tactic(auto)]
+
 ghost use Rattle.std.specs.Prelude.{◌≡◌, true, false};
 ghost use Rattle.outline.specs.WalkCalls.{impossible_walk, point_call};
 ghost use Rattle.outline.specs.EntryCalls.{longer, with_outage, fix_call, outage_call, entry_call};

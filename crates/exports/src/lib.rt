@@ -3,6 +3,8 @@
 // outline hand on to outline_replies, mavrihkel_compare_walks to comparison_replies, mavrihkel_third_moments to third_replies, mavrihkel_fix_point to fix_replies, and mavrihkel_mask_totals to mask_replies; mavrihkel_region_totals asks cells and has region_replies write the answer,
 // and mavrihkel_mask_runs asks masks and has mask_replies write it. Since document 02, CR 2, cells have the totals of their ground: the names of before,
 // mavrihkel_region_sums and mavrihkel_mask_sums, are not used again, so that an old program fails to link instead of reading other figures.
+#![tactic(auto)]
+
 ghost use Rattle.std.specs.Prelude.{◌≡◌};
 ghost use Rattle.outline.specs.ListCall.{list_call};
 ghost use Rattle.outline.specs.MapCall.{map_call};

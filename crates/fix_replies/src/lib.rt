@@ -1,4 +1,6 @@
 // The point of a receiver's fix answered as a number and a buffer: 0; or the number of a refusal, with two zeros; or 100 where the buffer is too short.
+#![tactic(auto)]
+
 ghost use Rattle.std.specs.Prelude.{◌≡◌, [], ◌∷◌};
 ghost use Rattle.outline.specs.FixCall.{fix_point_call};
 ghost use Rattle.fixes.specs.FixAnswers.{reading};

@@ -3,7 +3,7 @@ use mathlib.Core.Path.{◌≡◌, ◌∙◌, ap}
 use mathlib.Core.Bool.{Bool, true, false}
 use mathlib.Core.List.{[], ◌∷◌}
 use Prim.Native.Nat.{ℕ, zero, suc, ◌+◌, ◌-◌, ◌*◌, ◌/◌, ◌%◌, ◌<◌, ◌≤◌, ◌^◌}
-use native.Mathlib.Nat.{div-add-mod', mod-lt, one_mul, mod-eq_of_lt, two-pow-succ, lt_of_le_of_lt}
+use native.Mathlib.Nat.{div-add-mod', mod-lt, one-mul, mod-eq_of_lt, two-pow-succ, lt_of_le_of_lt}
 use native.Mathlib.Omega.{arith}
 use lib.Dec.{lit<}
 use lib.Pow.{pow_pos, pow_mono}
@@ -76,4 +76,4 @@ half_le d h = pow_mono {i = d - 1} {j = 23} (omega arith)
 
 -- 1 shifted by d - 1 loses nothing.
 pub half_is : (d : ℕ) → d ≤ 24 → 1 * 2 ^ (d - 1) % 4294967296 ≡ 2 ^ (d - 1)
-half_is d h = ap (λ (n : ℕ). n % 4294967296) (one_mul (2 ^ (d - 1))) ∙ mod-eq_of_lt (lt_of_le_of_lt (half_le d h) (lit< tt))
+half_is d h = ap (λ (n : ℕ). n % 4294967296) (one-mul (2 ^ (d - 1))) ∙ mod-eq_of_lt (lt_of_le_of_lt (half_le d h) (lit< tt))

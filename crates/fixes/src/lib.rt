@@ -1,4 +1,6 @@
 // The point of a receiver's fix (document 02, CR 9): each float's exact value rounded to a whole number, halves up. By the float's bits, in whole numbers: a float's own sums round.
+#![tactic(auto)]
+
 ghost use Rattle.std.specs.Prelude.{◌≡◌, ◌≤◌, ◌<◌, ◌^◌};
 ghost use Rattle.outline.specs.FixCall.{fix_point_call};
 ghost use Rattle.fixes.specs.FixAnswers.{reading};

@@ -20,7 +20,7 @@ i64 z = to_z w64 (of_z w64 z)
 
 -- What a call gives, kept in an i64, where it is known to be z, and z to be v.
 pub called : {r z v : ℤ} → z ≡ v → mag r < 2 ^ 63 → r ≡ z → i64 r ≡ v
-called f ok e = to_z-of_z (record { sfits = ok }) ∙ e ∙ f
+called f ok e = to_z-of_z {w = w64} (record { sfits = ok }) ∙ e ∙ f
 
 pub record Sized : Type 0 where
   pub number : ℤ

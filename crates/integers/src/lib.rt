@@ -1,4 +1,6 @@
 // The lesser of two numbers.
+#![tactic(auto)]
+
 ghost use Rattle.std.specs.Prelude.{◌≡◌, min};
 
 pub fn lesser(a: usize, b: usize) -> usize

@@ -1,4 +1,6 @@
 // Document 02, CR 5, in one call: the figures of two walks, and the longer walk's own list, in a struct that holds it. Thin: the figures come from `comparison`, the list from `longer_list`.
+#![tactic(auto)]
+
 ghost use Rattle.std.specs.Prelude.{◌≡◌};
 ghost use Rattle.two_walks.specs.Comparison.{lent, comparison_call};
 ghost use Rattle.lent_comparison.specs.WholeAnswer.{whole_reading};

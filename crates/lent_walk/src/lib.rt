@@ -1,5 +1,7 @@
 // A walk that the caller holds and lends: the one call on it that is made for every point. The walk is copied out, `point` is called, and what
 // it leaves is stored back.
+#![tactic(auto)]
+
 ghost use Rattle.std.specs.Prelude.{◌≡◌};
 ghost use Rattle.outline.specs.WalkCalls.{point_call};
 ghost use Rattle.outline_answers.specs.WalkAnswers.{point_reading};

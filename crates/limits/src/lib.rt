@@ -1,4 +1,6 @@
 // Tests of size that the calls share. Each takes every value of its types.
+#![tactic(auto)]
+
 ghost use Rattle.std.specs.Prelude.{◌≡◌};
 ghost use Rattle.outline.specs.EdgeSums.{over, exceed, outline_bounds};
 ghost use Rattle.outline.specs.ListCall.{outside};

@@ -1,4 +1,6 @@
 // One line of the text program, carried out: what it does with the walk and the sheet, and what is printed of it.
+#![tactic(auto)]
+
 ghost use Rattle.outline.specs.WalkCalls.{end_call};
 ghost use Rattle.parsing.specs.ReadForm.{reading};
 ghost use Rattle.text_program.specs.Program.{carried_walk, carried_end, carry_out};

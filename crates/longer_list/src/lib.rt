@@ -1,4 +1,6 @@
 // Document 02, CR 5: the part of the caller's lists that a comparison of two walks hands back, itself and no copy.
+#![tactic(auto)]
+
 ghost use Rattle.std.specs.Prelude.{◌≡◌, not, eqb};
 ghost use Rattle.outline.specs.ListCall.{list_call};
 ghost use Rattle.two_walks.specs.Comparison.{comparison_number, lent, handed_back};

@@ -1,4 +1,6 @@
 // The runs of a mask for callers that hold their list of runs by value, in an array. Thin: the array's first records are lent to `mask_runs`.
+#![tactic(auto)]
+
 ghost use Rattle.std.specs.Prelude.{◌≡◌, min};
 ghost use Rattle.masks.specs.MaskAnswers.{runs_reading};
 ghost use Rattle.mask_array.specs.ArrayCall.{array_call};

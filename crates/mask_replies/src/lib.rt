@@ -1,4 +1,6 @@
 // The calls on a mask answered as a number and a buffer: 0 or the number of a refusal, with zeros for the totals or the count.
+#![tactic(auto)]
+
 ghost use Rattle.std.specs.Prelude.{◌≡◌, []};
 ghost use Rattle.mask_cells.specs.MaskCalls.{mask_totals_call};
 ghost use Rattle.masks.specs.MaskAnswers.{runs_reading};

@@ -1,5 +1,7 @@
 // Document 02, CR 1 and CR 2: masks of 64-bit words, 16 to a row. `mask_totals` answers the totals of the ground under the marked cells, `mask_runs` writes the
 // longest runs. Time goes by the number of words and of runs, not of cells.
+#![tactic(auto)]
+
 ghost use Rattle.std.specs.Prelude.{◌≡◌, false, []};
 ghost use Rattle.outline.specs.EdgeSums.{plus, exceed, outline_bounds};
 ghost use Rattle.mask_cells.specs.MaskCalls.{wrong_length, mask_totals_call, mask_runs_call};

@@ -1,4 +1,6 @@
 // Where a line ends: document 01, "The text program".
+#![tactic(auto)]
+
 ghost use Rattle.std.specs.Prelude.{◌≡◌, cond, suc, ◌+◌, ◌≤◌, ◌<◌, eqb, length, take, drop};
 ghost use Rattle.newlines.specs.LineLength.{line_length};
 

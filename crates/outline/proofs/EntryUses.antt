@@ -133,7 +133,7 @@ infinite_outage : (w : Walk) (seconds : Float) → impossible_walk w ≡ false �
 infinite_outage w seconds = (outage-numbers w seconds).not_finite_lem
 
 below-outage : (w : Walk) (seconds : Float) → impossible_walk w ≡ false → w.is_open ≡ true → not_finite seconds ≡ false → below_zero seconds ≡ true → entry_call w (Outage seconds) ≡ refused_walk 34 w
-below-outage w seconds = (outage-numbers w seconds).below_zero
+below-outage w seconds = (outage-numbers w seconds).below_zero_lem
 
 taken-outage : (w : Walk) (seconds : Float) → impossible_walk w ≡ false → w.is_open ≡ true → not_finite seconds ≡ false → below_zero seconds ≡ false → (entry_call w (Outage seconds)).number ≡ 0
 taken-outage w seconds = (outage-numbers w seconds).accepted

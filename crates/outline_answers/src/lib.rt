@@ -1,5 +1,7 @@
 // The answers of the call on a whole list and of the calls of a walk, each with the number of its refusal, and what a call of a walk hands back; and the totals
 // of a refusal, for every call that answers totals.
+#![tactic(auto)]
+
 ghost use Rattle.std.specs.Prelude.{◌≡◌};
 ghost use Rattle.outline.specs.EdgeSums.{zeros};
 ghost use Rattle.outline_answers.specs.ListAnswer.{reading as list_reading};

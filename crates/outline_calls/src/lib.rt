@@ -1,4 +1,6 @@
 // The code on outlines. Here is what the call on a whole list and the calls of a walk share: the terms of an edge, and sums of totals.
+#![tactic(auto)]
+
 ghost use Rattle.std.specs.Prelude.{◌≡◌, false};
 ghost use Rattle.outline.specs.EdgeSums.{over, exceed, plus};
 ghost use Rattle.outline.specs.ListCall.{outside};

@@ -1,4 +1,6 @@
 // What an answer of a call on outlines tells: its totals, zeros with every refusal, and of an end the longest outage; and three of the calls answered as a number and a buffer.
+#![tactic(auto)]
+
 ghost use Rattle.std.specs.Prelude.{◌≡◌, [], ◌∷◌};
 ghost use Rattle.receiver.specs.Floats.{plus_zero};
 ghost use Rattle.outline.specs.ListCall.{list_call};

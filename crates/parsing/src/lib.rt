@@ -1,4 +1,6 @@
 // The form of the line at a place of a chunk: document 01, "The text program", and document 02, CR 3.
+#![tactic(auto)]
+
 mod form;
 mod short;
 

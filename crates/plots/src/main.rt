@@ -1,4 +1,6 @@
 // Document 01's text program, from standard input to standard output. What the bytes give is `stream`'s to say; here they are read and written, 64 KB at a time.
+#![tactic(auto)]
+
 ghost use Rattle.std.specs.Prelude.{◌≡◌, ◌+◌, ◌-◌, ◌≤◌, ◌<◌, true, pos, length, take, drop};
 ghost use Rattle.std.specs.Int.Signed.{lt_z};
 ghost use Rattle.io.specs.Counts.{clamp_len};

@@ -1,4 +1,6 @@
 // A list of numbers, x and y in turn, as points: its length, its points by index, and whether one is beyond a limit. Each function takes every list.
+#![tactic(auto)]
+
 ghost use Rattle.std.specs.Prelude.{◌≡◌, get_or};
 ghost use Rattle.outline.specs.ListCall.{points as points_of, wrong_length, any_beyond, any_outside};
 ghost use Rattle.outline.specs.WalkCalls.{origin};

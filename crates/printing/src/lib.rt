@@ -1,4 +1,6 @@
 // The lines of the output, written into a buffer that the caller lends. Each answers the place past the line.
+#![tactic(auto)]
+
 ghost use Rattle.std.specs.Prelude.{◌+◌, ◌*◌, ◌≤◌, length};
 ghost use Rattle.centroid.specs.Centroid.{outline_centroid_call};
 ghost use Rattle.decimals.specs.Buffer.{field_room, Written};

@@ -2,7 +2,7 @@
 use Prim.Native.Nat.{ℕ, ◌+◌, ◌*◌, ◌^◌, ◌<◌}
 use mathlib.Core.Path.{◌≡◌, refl, sym, ap, ◌∙◌}
 use mathlib.Core.Bool.{Bool, true, false, true≢false, false≢true}
-use native.Mathlib.Nat.{le_antisymm, le_of_eq, le_of_lt, lt_of_not-le, not-le_of_lt, mul_pos, mul_right_comm}
+use native.Mathlib.Nat.{le_antisymm, le_of_eq, le_of_lt, lt_of_not-le, not-le_of_lt, mul-pos, mul_right_comm}
 use native.Mathlib.Omega.{arith}
 use borrow.Author.Tests.{ltb-true, ltb-false, lt-ltb, le-ltb}
 use lib.IntN.{ℤ}
@@ -17,7 +17,7 @@ use Rattle.receiver.specs.Floats.{plus_zero}
 
 -- Where n times one number is above something, n times any number above zero is above zero.
 times_pos : (n u m v : ℕ) → 0 < v → m < n * u → 0 < n * v
-times_pos n u m v w h = mul_pos (first_pos n u (omega arith)) w
+times_pos n u m v w h = mul-pos (first_pos n u (omega arith)) w
 
 -- Three fractions: a / p < b / q < c / r.
 less_through : (a b c p q r : ℕ) → 0 < r → a * q < b * p → b * r < c * q → a * r < c * p

@@ -1,4 +1,6 @@
 // What a receiver records (document 02, CR 9): fixes and outages, in floats; and the tests of refusals 33 and 34 on one float.
+#![tactic(auto)]
+
 ghost use Rattle.std.specs.Prelude.{◌≡◌};
 ghost use Rattle.receiver.specs.Floats.{not_finite, below_zero};
 

@@ -1,4 +1,6 @@
 // The totals of a region whose runs a caller holds by value, in an array. Thin: the array's first runs are lent to `region_totals`.
+#![tactic(auto)]
+
 ghost use Rattle.std.specs.Prelude.{◌≡◌, min, take};
 ghost use Rattle.cells.specs.RegionCall.{region_call, reading};
 

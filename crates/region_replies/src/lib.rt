@@ -1,4 +1,6 @@
 // An answer of the call on a list of runs, as a number and a buffer: 0 or the number of a refusal, with zeros for the totals.
+#![tactic(auto)]
+
 ghost use Rattle.std.specs.Prelude.{◌≡◌};
 ghost use Rattle.cells.specs.RegionCall.{reading};
 ghost use Rattle.region_replies.specs.RegionReply.{region_reply, index_capped};

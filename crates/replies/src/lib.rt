@@ -1,4 +1,6 @@
 // How a call's answer reaches a caller in another language: as a number, and as values at the front of a buffer that the caller lends.
+#![tactic(auto)]
+
 ghost use Rattle.std.specs.Prelude.{◌≡◌};
 ghost use Rattle.replies.specs.Reply.{reply};
 

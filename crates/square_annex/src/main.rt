@@ -1,5 +1,7 @@
 // Document 02, CR 6: prints the annex of square sums, one entry a line. Each entry is the one before and a square more. The constant of `square_table` is not read, or
 // a comparison of the two would compare a thing with itself.
+#![tactic(auto)]
+
 ghost use Rattle.std.specs.Prelude.{◌≡◌, ◌+◌, ◌≤◌, length};
 ghost use Rattle.decimals.specs.Buffer.{field_room, Written};
 ghost use Rattle.column_sums.specs.Annex.{square_sums};

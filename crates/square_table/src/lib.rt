@@ -1,4 +1,6 @@
 // Document 02, CR 6: the square sums of the annex as a constant table, from which the sum of x² over a run is taken.
+#![tactic(auto)]
+
 ghost use Rattle.std.specs.Prelude.{◌≡◌, pos, get_or};
 ghost use Rattle.column_sums.specs.Annex.{square_sums};
 

@@ -1,4 +1,6 @@
 // The streaming core of the text program: a chunk of the input at a time, for every state and every chunk.
+#![tactic(auto)]
+
 mod step;
 
 ghost use Rattle.std.specs.Prelude.{◌≡◌, length};

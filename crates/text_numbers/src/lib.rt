@@ -1,4 +1,6 @@
 // Numbers of the text program: an optional minus and one to four digits.
+#![tactic(auto)]
+
 ghost use Rattle.std.specs.Prelude.{◌≡◌, true, not, cond, [], ◌∷◌, ◌<◌, pos, neg_ℤ};
 ghost use Rattle.text_numbers.specs.Numbers.{is_digit};
 ghost use Rattle.text_numbers.specs.LeadingNumber.{leading_number};

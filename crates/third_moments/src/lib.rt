@@ -1,4 +1,6 @@
 // Document 02, CR 10: the third moments of an outline, given as one lent list of numbers, x and y in turn, that is read in place.
+#![tactic(auto)]
+
 ghost use Rattle.std.specs.Prelude.{◌≡◌};
 ghost use Rattle.third_order.specs.ThirdTerms.{no_thirds};
 ghost use Rattle.third_order.specs.ThirdCall.{third_call};

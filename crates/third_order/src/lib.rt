@@ -1,4 +1,5 @@
 // Document 02, CR 10: third moments of an outline. The four totals; the definitions of their edge terms and of the call on a whole list (specs/), and the laws (proofs/). There is no code here.
+#![tactic(auto)]
 
 // The four totals of third order, by falling power of x: 20 × the integral of x³, 60 × those of x²y and xy², 20 × that of y³.
 #[derive(Drop)]

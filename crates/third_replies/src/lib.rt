@@ -1,4 +1,6 @@
 // The third moments of an outline answered as a number and a buffer: 0; or the number of a refusal, with four zeros; or 100 where the buffer is too short.
+#![tactic(auto)]
+
 ghost use Rattle.std.specs.Prelude.{◌≡◌};
 ghost use Rattle.third_order.specs.ThirdCall.{third_call};
 ghost use Rattle.third_replies.specs.ThirdReply.{third_reply};

@@ -1,4 +1,6 @@
 // Document 02, CR 5: two walks of one plot. The figures that compare them; the definitions of the comparison (specs/) and its laws (proofs/). There is no code here.
+#![tactic(auto)]
+
 use outline::{Totals, ZEROS};
 
 // Six differences of totals, first walk minus second; and two squared distances in square decimetres, the field's forward and backward one: from the points of the

@@ -1,4 +1,6 @@
 // The state of a walk: how a walk is made, what a new sheet is, the calls that only open a walk or give it up, by value, and the tests of refusal 28. None adds an edge.
+#![tactic(auto)]
+
 mod handed_in;
 
 ghost use Rattle.std.specs.Prelude.{◌≡◌};

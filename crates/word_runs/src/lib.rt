@@ -1,4 +1,6 @@
 // The bits of a word, document 02, CR 1: how many are set, and where the next set or clear bit stands.
+#![tactic(auto)]
+
 ghost use Rattle.std.specs.Prelude.{◌≡◌, ◌-◌};
 ghost use Rattle.word_runs.specs.Bits.{ones_below, first_of, wanted};
 

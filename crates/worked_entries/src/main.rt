@@ -1,5 +1,7 @@
 // Entries of a receiver's file (document 02, CR 9), run through the proved functions: fixes as points, a walk told call by call, and a walk that is full. Each prints a row:
 // label, what was asked, number of the refusal (0 where accepted) and values, separated by tabs, as second/worked_entries.py prints them too.
+#![tactic(auto)]
+
 mod calls;
 mod draws;
 mod fix_rows;

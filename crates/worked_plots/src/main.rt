@@ -1,6 +1,8 @@
 // Document 01, "Plots worked by hand": the plots that carry no ✱, and rings, masks, compared walks, square sums, moves, mended runs and third moments of document 02, run through the proved functions. Each
 // prints a row: label, what was asked, number of the refusal (0 where accepted) and values, separated by tabs, as second/worked.py prints them too. To read a square sum
 // refuses nothing, so its row has no number. The plots marked ✱ are rows of worked_rows/specs/Rows.antt.
+#![tactic(auto)]
+
 ghost use Rattle.std.specs.Prelude.{◌≤◌};
 
 mod annex_rows;
