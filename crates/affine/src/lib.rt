@@ -11,7 +11,7 @@ ghost use Rattle.affine.specs.private.Limits.{AtMost, RowWithin, MapWithin};
 use limits::{TOTAL_LIMIT, size_exceeds};
 
 // The mapped totals; or refusal 3, 4 or 5, in this order.
-#[derive(Drop)]
+#[derive(Clone, Copy)]
 pub enum MapAnswer {
     Mapped(outline::Totals),
     MapOutsideLimits,

@@ -15,7 +15,7 @@ use square_table::{entry_at, square_sums};
 
 // As many cells of a row as `length`, from the column `first` on. Laid out as in C, whose callers lend lists of them.
 #[repr(C)]
-#[derive(Drop)]
+#[derive(Clone, Copy)]
 pub struct Run {
     pub row: u32,
     pub first: u32,
@@ -23,7 +23,7 @@ pub struct Run {
 }
 
 // The totals of a region, or why it has none: refusal 6 or 7 with the lowest index of a run that breaks it (document 02, CR 8), or 8.
-#[derive(Drop)]
+#[derive(Clone, Copy)]
 pub enum RegionAnswer {
     Accepted(Totals),
     BadRun(usize),
@@ -46,7 +46,7 @@ impl RegionAnswer {
 }
 
 // The sums over cells: how many they are, then the sums of x, y, x², xy and y². No caller sees them.
-#[derive(Drop)]
+#[derive(Clone, Copy)]
 struct CellSums {
     count: i64,
     x: i64,
@@ -57,7 +57,7 @@ struct CellSums {
 }
 
 // What the runs read so far have come to: the sums over their cells; or the index of the first run that breaks 6, or of the first that breaks 7 where none breaks 6.
-#[derive(Drop)]
+#[derive(Clone, Copy)]
 enum Found {
     Sums(CellSums),
     BadRun(usize),
@@ -65,7 +65,7 @@ enum Found {
 }
 
 // The runs read so far: their number, the last of them, and what they have come to.
-#[derive(Drop)]
+#[derive(Clone, Copy)]
 struct Scan {
     count: usize,
     last: Run,

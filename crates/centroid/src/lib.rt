@@ -8,7 +8,7 @@ ghost use Rattle.centroid.specs.Answers.{reading};
 ghost use Rattle.centroid.specs.private.Quotient.{QuotientBounds};
 
 // The centre's x and y; or a total is outside its limits (refusal 11), or the area is 0 (refusal 27).
-#[derive(Drop)]
+#[derive(Clone, Copy)]
 pub enum CentroidAnswer {
     At(i64, i64),
     OutsideLimits,

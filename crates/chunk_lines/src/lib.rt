@@ -14,7 +14,7 @@ use parts::{end_reading, line_size, part_of_line, past_limit, unended, whole_lin
 use text_program::State;
 
 // What a step leaves: how many bytes of the chunk it has taken, the place in the output past what it has written, and whether another may follow.
-#[derive(Drop)]
+#[derive(Clone, Copy)]
 pub struct Stepped {
     pub state: State,
     pub sheet: Sheet,

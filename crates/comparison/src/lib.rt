@@ -18,7 +18,7 @@ fn no_figures() -> Figures
     NO_FIGURES
 }
 
-#[derive(Drop)]
+#[derive(Clone, Copy)]
 pub enum FiguresAnswer {
     Compared(Figures),
     WrongLength,

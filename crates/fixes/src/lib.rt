@@ -10,7 +10,7 @@ use outline::Position;
 use receiver::Fix;
 
 // The point of a fix; or a float is infinite or not a number (refusal 33), or the point is outside the limits (refusal 1).
-#[derive(Drop)]
+#[derive(Clone, Copy)]
 pub enum FixAnswer {
     At(Position),
     NotFinite,
@@ -31,7 +31,7 @@ impl FixAnswer {
 }
 
 // One float of a fix as a coordinate.
-#[derive(Drop)]
+#[derive(Clone, Copy)]
 enum Coordinate {
     At(i32),
     Outside,

@@ -6,7 +6,7 @@ ghost use Rattle.lines.specs.private.WalkAnswer.{outcome};
 use outline::{Kind, Walk};
 
 // The walk after a call, and the call's number: 0 where it is accepted.
-#[derive(Drop)]
+#[derive(Clone, Copy)]
 pub(crate) struct Answered {
     pub walk: Walk,
     pub number: u64,

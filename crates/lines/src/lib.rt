@@ -16,7 +16,7 @@ use parsing::LineForm;
 use printing::{put_outline, put_refusal};
 
 // What a line leaves, and the place past what it prints.
-#[derive(Drop)]
+#[derive(Clone, Copy)]
 pub struct LineReply {
     pub walk: Walk,
     pub sheet: Sheet,

@@ -18,7 +18,7 @@ use outline_answers::no_totals;
 use square_table::square_sums;
 
 // The totals of the ground under the marked cells, or the mask has a wrong length (refusal 31).
-#[derive(Drop)]
+#[derive(Clone, Copy)]
 pub enum MaskTotalsAnswer {
     Accepted(Totals),
     WrongLength,
@@ -47,7 +47,7 @@ impl MaskTotalsAnswer {
 }
 
 // How many runs were written; or the mask has a wrong length (refusal 31), or too many runs (refusal 8).
-#[derive(Drop)]
+#[derive(Clone, Copy)]
 pub enum MaskRunsAnswer {
     Written(usize),
     WrongLength,
@@ -79,7 +79,7 @@ impl MaskRunsAnswer {
 }
 
 // What the writer answers, and how many runs it is to write.
-#[derive(Drop)]
+#[derive(Clone, Copy)]
 struct Decision {
     answer: MaskRunsAnswer,
     count: usize,

@@ -14,7 +14,7 @@ use square_table::entry_at;
 use word_runs::{filled, first_clear, first_set};
 
 // Over cells of one row: how many they are, and the sums of x and of x².
-#[derive(Drop)]
+#[derive(Clone, Copy)]
 struct RowSums {
     count: i64,
     x: i64,

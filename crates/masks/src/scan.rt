@@ -10,7 +10,7 @@ use integers::lesser;
 use word_runs::first_bit;
 
 // A run, and the position behind it, where the search for the next one begins.
-#[derive(Drop)]
+#[derive(Clone, Copy)]
 pub(crate) struct Found {
     pub(crate) run: Run,
     pub(crate) next: usize,

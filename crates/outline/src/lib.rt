@@ -3,14 +3,14 @@
 
 
 // A position in decimetres: x east, y north.
-#[derive(Drop)]
+#[derive(Clone, Copy)]
 pub struct Position {
     pub x: i32,
     pub y: i32,
 }
 
 // The six totals of an outline, in document 01's order: multiples of the area, the first and the second moments.
-#[derive(Drop)]
+#[derive(Clone, Copy)]
 pub struct Totals {
     pub a2: i64,
     pub x6: i64,
@@ -33,7 +33,7 @@ pub const ZEROS: Totals = Totals {
 };
 
 // A size for each of the six totals: how great it may be, either sign.
-#[derive(Drop)]
+#[derive(Clone, Copy)]
 pub struct Sizes {
     pub a2: u64,
     pub x6: u64,
@@ -44,7 +44,7 @@ pub struct Sizes {
 }
 
 // An affine map: (x, y) goes to (a x + b y + e, g x + h y + f).
-#[derive(Drop)]
+#[derive(Clone, Copy)]
 pub struct AffineMap {
     pub a: i32,
     pub b: i32,
@@ -55,7 +55,7 @@ pub struct AffineMap {
 }
 
 // What the ring of a walk bounds: land, or a lake in it (document 02, CR 3).
-#[derive(Drop)]
+#[derive(Clone, Copy)]
 pub enum Kind {
     Island,
     Hole,
@@ -63,7 +63,7 @@ pub enum Kind {
 
 // A walk that its caller holds: the open polyline walked so far, the kind of its ring, whether it is open, and the seconds of its longest outage (document 02, CR 9). The text program is
 // fastest with the fields in this order.
-#[derive(Drop)]
+#[derive(Clone, Copy)]
 pub struct Walk {
     pub count: u32,
     pub first: Position,
@@ -75,7 +75,7 @@ pub struct Walk {
 }
 
 // A sheet: how many outlines it has accepted, and the sums of their totals.
-#[derive(Drop)]
+#[derive(Clone, Copy)]
 pub struct Sheet {
     pub count: u32,
     pub totals: Totals,

@@ -16,7 +16,7 @@ pub fn no_totals() -> Totals
     ZEROS
 }
 
-#[derive(Drop)]
+#[derive(Clone, Copy)]
 pub enum OutlineAnswer {
     Accepted(Totals),
     WrongLength,
@@ -36,7 +36,7 @@ impl OutlineAnswer {
     }
 }
 
-#[derive(Drop)]
+#[derive(Clone, Copy)]
 pub enum BeginAnswer {
     Accepted,
     Impossible,
@@ -56,13 +56,13 @@ impl BeginAnswer {
     }
 }
 
-#[derive(Drop)]
+#[derive(Clone, Copy)]
 pub struct BeginReply {
     pub answer: BeginAnswer,
     pub walk: Walk,
 }
 
-#[derive(Drop)]
+#[derive(Clone, Copy)]
 pub enum AbandonAnswer {
     Accepted,
     Impossible,
@@ -82,13 +82,13 @@ impl AbandonAnswer {
     }
 }
 
-#[derive(Drop)]
+#[derive(Clone, Copy)]
 pub struct AbandonReply {
     pub answer: AbandonAnswer,
     pub walk: Walk,
 }
 
-#[derive(Drop)]
+#[derive(Clone, Copy)]
 pub enum PointAnswer {
     Accepted,
     Impossible,
@@ -112,14 +112,14 @@ impl PointAnswer {
     }
 }
 
-#[derive(Drop)]
+#[derive(Clone, Copy)]
 pub struct PointReply {
     pub answer: PointAnswer,
     pub walk: Walk,
 }
 
 // The answers of an entry of a receiver given to a walk (document 02, CR 9).
-#[derive(Drop)]
+#[derive(Clone, Copy)]
 pub enum EntryAnswer {
     Accepted,
     Impossible,
@@ -147,14 +147,14 @@ impl EntryAnswer {
     }
 }
 
-#[derive(Drop)]
+#[derive(Clone, Copy)]
 pub struct EntryReply {
     pub answer: EntryAnswer,
     pub walk: Walk,
 }
 
 // Where accepted: the totals, and the walk's longest outage.
-#[derive(Drop)]
+#[derive(Clone, Copy)]
 pub enum EndAnswer {
     Accepted(Totals, f32),
     Impossible,
@@ -182,7 +182,7 @@ impl EndAnswer {
     }
 }
 
-#[derive(Drop)]
+#[derive(Clone, Copy)]
 pub struct EndReply {
     pub answer: EndAnswer,
     pub walk: Walk,

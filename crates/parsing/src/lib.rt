@@ -11,7 +11,7 @@ use outline::Kind;
 use short::{chosen_form, copy_few, few_left, offset_by, place_of};
 
 // The forms of a line, each with where the next line begins.
-#[derive(Drop)]
+#[derive(Clone, Copy)]
 pub enum LineForm {
     Begin(Kind, usize),
     End(usize),

@@ -5,14 +5,14 @@ ghost use Rattle.std.specs.Prelude.{◌≡◌};
 ghost use Rattle.receiver.specs.Floats.{not_finite, below_zero};
 
 // A position as the receiver tells it: east and north of the peg, in decimetres.
-#[derive(Drop)]
+#[derive(Clone, Copy)]
 pub struct Fix {
     pub east: f32,
     pub north: f32,
 }
 
 // One entry of a receiver's file: a fix, or an outage with its seconds.
-#[derive(Drop)]
+#[derive(Clone, Copy)]
 pub enum Entry {
     Fix(Fix),
     Outage(f32),

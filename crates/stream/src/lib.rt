@@ -12,7 +12,7 @@ use step::step;
 use text_program::State;
 
 // What a call leaves: how many bytes of the chunk it has taken, and how many it has written.
-#[derive(Drop)]
+#[derive(Clone, Copy)]
 pub struct Fed {
     pub state: State,
     pub sheet: Sheet,

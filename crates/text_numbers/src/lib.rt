@@ -7,14 +7,14 @@ ghost use Rattle.text_numbers.specs.LeadingNumber.{leading_number};
 ghost use Rattle.text_numbers.specs.private.Digits.{digits_at};
 
 // `size` is how many bytes the number takes, with its minus; 0 where none of the form stands there.
-#[derive(Drop)]
+#[derive(Clone, Copy)]
 pub struct NumberAt {
     pub value: i32,
     pub size: usize,
 }
 
 // The same without a sign.
-#[derive(Drop)]
+#[derive(Clone, Copy)]
 struct DigitsAt {
     value: u32,
     size: usize,

@@ -2,7 +2,7 @@
 // gone because it is too long for any form, whether reading has ended (10), whether the S line is written, and the walk.
 #![tactic(auto)]
 
-#[derive(Drop)]
+#[derive(Clone, Copy)]
 pub struct State {
     pub lines: u32,
     pub bytes: u32,

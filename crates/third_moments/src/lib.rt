@@ -12,7 +12,7 @@ use point_list::{any_beyond, any_outside, wrong_length};
 use sums::sum_edges;
 use third_order::{NO_THIRDS, ThirdTotals};
 
-#[derive(Drop)]
+#[derive(Clone, Copy)]
 pub enum ThirdAnswer {
     Accepted(ThirdTotals),
     WrongLength,

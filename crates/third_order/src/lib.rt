@@ -2,7 +2,7 @@
 #![tactic(auto)]
 
 // The four totals of third order, by falling power of x: 20 × the integral of x³, 60 × those of x²y and xy², 20 × that of y³.
-#[derive(Drop)]
+#[derive(Clone, Copy)]
 pub struct ThirdTotals {
     pub xxx20: i64,
     pub xxy60: i64,

@@ -5,7 +5,7 @@ use outline::{Totals, ZEROS};
 
 // Six differences of totals, first walk minus second; and two squared distances in square decimetres, the field's forward and backward one: from the points of the
 // first walk to the second, and from those of the second to the first.
-#[derive(Drop)]
+#[derive(Clone, Copy)]
 pub struct Figures {
     pub differences: Totals,
     pub forward: u32,

@@ -9,7 +9,7 @@ use outline_answers::no_totals;
 use outline_replies::{outage_of_end, totals_of_end};
 use receiver::Entry;
 
-#[derive(Drop)]
+#[derive(Clone, Copy)]
 pub(crate) enum Call {
     Entry(Entry),
     Begin(Kind),
@@ -17,7 +17,7 @@ pub(crate) enum Call {
 }
 
 // What a call answers and leaves. Totals and outage are an end's answer, and zeros with every other call.
-#[derive(Drop)]
+#[derive(Clone, Copy)]
 pub(crate) struct Told {
     pub number: u32,
     pub totals: Totals,

@@ -17,21 +17,21 @@ const MODEST: u32 = 0x4400_0000;
 const MODEST_SPAN: u32 = 0x100_0000;
 
 // A float, and the state that its draws leave.
-#[derive(Drop)]
+#[derive(Clone, Copy)]
 struct DrawnFloat {
     value: f32,
     state: u32,
 }
 
 // A call, and the state that its draws leave.
-#[derive(Drop)]
+#[derive(Clone, Copy)]
 pub(crate) struct DrawnCall {
     pub call: Call,
     pub state: u32,
 }
 
 // What a drawn call is given.
-#[derive(Drop)]
+#[derive(Clone, Copy)]
 pub(crate) struct Given {
     pub state: u32,
     pub walk: Walk,

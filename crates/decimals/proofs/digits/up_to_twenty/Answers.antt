@@ -10,7 +10,7 @@ pub eight_digits-requires : goal.eight_digits-requires
 eight_digits-requires c =
     let first = c.before.before.before in
     let s = first.before.before.before.before in
-    (omega arith, rest_fits 8 s.args.n (omega arith) s.requires first.up_to_sixteen-a.ensures)
+    record { n_bound = omega arith; at_in_bounds = rest_fits 8 s.args.n (omega arith) s.requires first.up_to_sixteen-a.ensures }
 
 pub returns : goal.returns
 returns c =
