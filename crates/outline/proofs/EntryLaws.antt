@@ -1,5 +1,5 @@
 -- A fix beside the point call, what an outage answers, keeps and leaves alone, and 28 of the longest outage: by the tests of each call.
-use mathlib.Core.Path.{◌≡◌, refl, sym, ap, ◌∙◌}
+use mathlib.Core.Path.{◌≡◌, refl, sym}
 use mathlib.Core.Bool.{Bool, true, false, not, ◌&&◌, ◌||◌, cond}
 use mathlib.Core.Logic.{◌≢◌}
 use lib.Dec.{ltb, eqb}

@@ -1,6 +1,6 @@
 -- A walk that calls leave closed is the one handed in, or the closed walk.
 use mathlib.Core.Path.{◌≡◌, refl, sym, ◌∙◌}
-use mathlib.Core.Bool.{true, false, true≢false}
+use mathlib.Core.Bool.{true, true≢false}
 use mathlib.Core.List.{List, [], ◌∷◌}
 use mathlib.Core.Logic.{◌⊎◌, inl, inr}
 use Prim.Native.Nat.{ℕ}
@@ -9,7 +9,7 @@ use Rattle.integers.proofs.Cases.{by_cond}
 use Rattle.outline.specs.declared.Position.{Position}
 use Rattle.outline.specs.declared.Walk.{Walk}
 use Rattle.outline.specs.WalkCalls.{closed, extended}
-use Rattle.outline.specs.CallLists.{Call, number_of, walk_after, Trace, next, after, Walking, reached}
+use Rattle.outline.specs.CallLists.{Call, number_of, walk_after, Trace, next, after, reached}
 use Rattle.outline.specs.WalkedOutline.{LeftClosed}
 use Rattle.outline.proofs.CallCases as Case
 

@@ -1,5 +1,5 @@
 -- The longest outage of some in turn: one more at the end, and that 33 and 34 refuse it only if they refuse one of them.
-use mathlib.Core.Path.{◌≡◌, refl, ap}
+use mathlib.Core.Path.{◌≡◌, refl}
 use mathlib.Core.Bool.{Bool, true, false, cond}
 use mathlib.Core.List.{List, [], ◌∷◌, ◌++◌}
 use lib.Ieee.{Float, lt}

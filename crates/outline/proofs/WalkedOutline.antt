@@ -2,12 +2,12 @@
 -- accepted begin, and the points and outages taken since. Each call keeps this, and the claims follow from it.
 use mathlib.Core.Path.{◌≡◌, refl, sym, ◌∙◌, ap, subst}
 use mathlib.Core.Bool.{true, false, cond, true≢false}
-use mathlib.Core.List.{List, [], ◌∷◌, ◌++◌, map}
+use mathlib.Core.List.{List, [], ◌∷◌, map}
 use Prim.Native.Nat.{ℕ, zero-le}
 use native.Mathlib.Omega.{arith}
 use lib.Dec.{eqb}
 use lib.Ieee.{Float}
-use lib.ListN.{length, length-append}
+use lib.ListN.{length-append}
 use borrow.Author.Tests.{ne_eqb}
 use Rattle.outline.specs.declared.Position.{Position}
 use Rattle.outline.specs.declared.Walk.{Walk}
@@ -21,7 +21,7 @@ use Rattle.outline.specs.EntryCalls.{with_outage}
 use Rattle.outline.specs.CallLists.{Call, number_of, walk_after, Ring, ring_of, with_point, with_seconds, ring_with, longest_after, Trace, next, after, walk_of, ring_totals, Walking, reached}
 use Rattle.outline.specs.PiecesAddUp.{AddUpMoved}
 use Rattle.outline.specs.WalkedOutline.{Closable, WalkedOutline, WalkedPieces}
-use Rattle.outline.proofs.Every.{All, all_append}
+use Rattle.outline.proofs.Every.{all_append}
 use Rattle.outline.proofs.IndexLaws.{points-numbers}
 use Rattle.outline.proofs.Limits.{Inside, beyond_not, Outline, accepts-points, accepted_within}
 use Rattle.outline.proofs.PiecesAddUp.{pieces_add_up}

@@ -1,6 +1,6 @@
 -- Source document 002's edge terms, cleared of fractions. Around a closed outline they sum to the table's (proofs/OtherTermsLaw); on a walk that is
 -- still open they do not, and there document 01's table decides. A2 and XY24 are the table's own.
-use Rattle.std.specs.Prelude.{ℤ, ◌+ℤ◌, ◌-ℤ◌, ◌*ℤ◌}
+use Rattle.std.specs.Prelude.{◌+ℤ◌, ◌-ℤ◌, ◌*ℤ◌}
 use Rattle.outline.specs.EdgeSums.{Term}
 
 -- (x² + x×p + p²)×(q − y)

@@ -1,7 +1,6 @@
 // Plain types and values that the definitions and every function on outlines share.
 #![tactic(auto)]
 
-
 // A position in decimetres: x east, y north.
 #[derive(Clone, Copy)]
 pub struct Position {
