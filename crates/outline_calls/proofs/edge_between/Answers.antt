@@ -3,18 +3,18 @@ use mathlib.Core.Path.{◌≡◌}
 use mathlib.Core.Bool.{false}
 use mathlib.Core.List.{List, [], ◌∷◌}
 use lib.IntN.{ℤ, ◌-ℤ◌, ◌*ℤ◌}
-use mir.Syntax.{w32, w64}
+use mir.Syntax.{w32}
 use mir.Val.{to_z, of_z}
 use Rattle.integers.proofs.Bounds.{Within}
 use Rattle.integers.proofs.SignedCode.{code}
 use Rattle.integers.proofs.SizedNumbers.{i64, called, Sized, sized, fits, is_plain}
 use Rattle.outline.specs.declared.Position.{Position}
+use Rattle.outline.specs.ListCall.{outside}
 use Rattle.outline.specs.EdgeSums.{cross, x6, y6, xx12, xy24, yy12, over}
 use Rattle.outline.proofs.Limits.{never_over, beyond_not}
 use Rattle.outline.proofs.TotalsLaws.{totals_equal}
 use Rattle.outline_calls.specs.private.Terms.{first_term, second_term, mixed_term}
-use Rattle.outline_calls.proofs.edge_between.Statement.{statement}
-use Rattle.outline_calls.proofs.edge_between.Tie as tie
+use Rattle.outline_calls.proofs.edge_between.Goals as goal
 
 -- A coordinate as the code casts and reads it, and the cross product as it makes it of four.
 abbrev cast : ℤ → ℤ
@@ -23,17 +23,11 @@ cast z = i64 (to_z w32 (of_z w32 z))
 abbrev made : Position → Position → ℤ
 made a b = i64 (i64 (cast a.x *ℤ cast b.y) -ℤ i64 (cast b.x *ℤ cast a.y))
 
-module _ (s : tie.Start) where
-  abbrev a : Position
-  a = s.args.a
-
-  abbrev b : Position
-  b = s.args.b
-
+module _ (a b : Position) (a_value : outside a ≡ false) (b_value : outside b ≡ false) where
   inside : Within (a.x ∷ a.y ∷ b.x ∷ b.y ∷ []) (2000 ∷ 2000 ∷ 2000 ∷ 2000 ∷ [])
   inside =
-      let from = beyond_not a s.pre.0 in
-      let to = beyond_not b s.pre.1 in
+      let from = beyond_not a a_value in
+      let to = beyond_not b b_value in
       (from.0, (from.1, (to.0, (to.1, tt))))
 
   abbrev operands : List Sized
@@ -85,64 +79,55 @@ module _ (s : tie.Start) where
   c_small : over 8000000 (made a b) ≡ false
   c_small = never_over operands 8000000 (search code depth 40) tt
 
--- The code reads the coordinates into locals, two steps each: here each is i64, and the way back to the start.
-abbrev at_x : tie.After-struct-told → tie.Start
-at_x c = c.before.before
+pub overflow_sub-c : goal.overflow_sub-c
+overflow_sub-c c = fits (operands c.args.a c.args.b c.requires.a_value c.requires.b_value) (search code depth 40) tt
 
-abbrev at_y : tie.After-struct-told2 → tie.Start
-at_y c = at_x c.before.before
+pub first_term-requires : goal.first_term-requires
+first_term-requires c =
+    let a = c.args.a in
+    let b = c.args.b in
+    record { s_value = x_small a b c.requires.a_value c.requires.b_value; t_value = p_small a b c.requires.a_value c.requires.b_value; c_value = c_small a b c.requires.a_value c.requires.b_value }
 
-abbrev at_p : tie.After-struct-told3 → tie.Start
-at_p c = at_y c.before.before
+pub first_term-requires-2 : goal.first_term-requires-2
+first_term-requires-2 c =
+    let a = c.args.a in
+    let b = c.args.b in
+    record { s_value = y_small a b c.requires.a_value c.requires.b_value; t_value = q_small a b c.requires.a_value c.requires.b_value; c_value = c_small a b c.requires.a_value c.requires.b_value }
 
--- From here on nothing more is bound but what the calls give.
-abbrev at-q : tie.After-struct-told4 → tie.Start
-at-q c = at_p c.before.before
+pub second_term-requires : goal.second_term-requires
+second_term-requires c =
+    let a = c.args.a in
+    let b = c.args.b in
+    record { s_value = x_small a b c.requires.a_value c.requires.b_value; t_value = p_small a b c.requires.a_value c.requires.b_value; c_value = c_small a b c.requires.a_value c.requires.b_value }
 
-first-term-requires : tie.Need-first-term-requires
-first-term-requires c κs = let s = at-q c in (x_small s, (p_small s, c_small s))
+pub mixed_term-requires : goal.mixed_term-requires
+mixed_term-requires c =
+    let a = c.args.a in
+    let b = c.args.b in
+    record {
+      x_value = x_small a b c.requires.a_value c.requires.b_value;
+      y_value = y_small a b c.requires.a_value c.requires.b_value;
+      p_value = p_small a b c.requires.a_value c.requires.b_value;
+      q_value = q_small a b c.requires.a_value c.requires.b_value;
+      c_value = c_small a b c.requires.a_value c.requires.b_value;
+    }
 
-first-term-requires-2 : tie.Need-first-term-requires-2
-first-term-requires-2 c κs = let s = at-q c.before in (y_small s, (q_small s, c_small s))
+pub second_term-requires-2 : goal.second_term-requires-2
+second_term-requires-2 c =
+    let a = c.args.a in
+    let b = c.args.b in
+    record { s_value = y_small a b c.requires.a_value c.requires.b_value; t_value = q_small a b c.requires.a_value c.requires.b_value; c_value = c_small a b c.requires.a_value c.requires.b_value }
 
-second-term-requires : tie.Need-second-term-requires
-second-term-requires c κs = first-term-requires c.before.before κs
-
-mixed-term-requires : tie.Need-mixed-term-requires
-mixed-term-requires c κs = let s = at-q c.before.before.before in (x_small s, (y_small s, (p_small s, (q_small s, c_small s))))
-
-second-term-requires-2 : tie.Need-second-term-requires-2
-second-term-requires-2 c κs = first-term-requires-2 c.before.before.before κs
-
-returns : tie.Need-returns
+pub returns : goal.returns
 returns c =
-    let at-xy24 = c.before in
-    let at-xx12 = at-xy24.before in
-    let at-y6 = at-xx12.before in
-    let at-x6 = at-y6.before in
-    let s = at-q at-x6.before in
+    let a = c.args.a in
+    let b = c.args.b in
+    let e = c.requires.a_value in
+    let f = c.requires.b_value in
     totals_equal
-    (c_is s)
-    (called (x6_is s) at-x6.first-term.type-inv at-x6.first-term.ensures)
-    (called (y6_is s) at-y6.first-term2.type-inv at-y6.first-term2.ensures)
-    (called (xx12_is s) at-xx12.second-term.type-inv at-xx12.second-term.ensures)
-    (called (xy24_is s) at-xy24.mixed-term.type-inv at-xy24.mixed-term.ensures)
-    (called (yy12_is s) c.second-term2.type-inv c.second-term2.ensures)
-
-pub edge_between_spec : {M : Type 1} → statement M
-edge_between_spec =
-    tie.close
-    (tie.spec
-    (λ c. fits (operands (at_x c)) (search code depth 40) tt)
-    (λ c. fits (operands (at_y c)) (search code depth 40) tt)
-    (λ c. fits (operands (at_p c)) (search code depth 40) tt)
-    (λ c. fits (operands (at-q c)) (search code depth 40) tt)
-    (λ c. fits (operands (at-q c)) (search code depth 40) tt)
-    (λ c. fits (operands (at-q c)) (search code depth 40) tt)
-    (λ c. fits (operands (at-q c)) (search code depth 40) tt)
-    first-term-requires
-    first-term-requires-2
-    second-term-requires
-    mixed-term-requires
-    second-term-requires-2
-    returns)
+    (c_is a b e f)
+    (called (x6_is a b e f) c.first_term.type_inv c.first_term.ensures)
+    (called (y6_is a b e f) c.first_term-2.type_inv c.first_term-2.ensures)
+    (called (xx12_is a b e f) c.second_term.type_inv c.second_term.ensures)
+    (called (xy24_is a b e f) c.mixed_term.type_inv c.mixed_term.ensures)
+    (called (yy12_is a b e f) c.second_term-2.type_inv c.second_term-2.ensures)
