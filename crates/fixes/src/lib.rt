@@ -86,6 +86,7 @@ fn coordinate_by_bits(f: f32) -> Coordinate
 }
 
 // 33 of either comes before 1 of either.
+#[tactic(auto, unfolding(crate::specs::private::Coordinates::point_of))]
 fn point_of(x: Coordinate, y: Coordinate) -> FixAnswer
     ensures { reading result ≡ point_of x y }
 {
