@@ -94,7 +94,7 @@ refused_line n f w s c e h = go f e (by_end f)
 -- ---- the cases of a line
 
 -- They say what the line does, and the next line's trace is reached too.
-line_does : {r left : Trace} {s kept : Sheet} {l : Line} {out : List ℕ} → Reached r → LinePrints r s l out left kept → (carried r.walk s l ≡ record { output = out; walk = left.walk; sheet = kept }) × Reached left
+line_does : {r : Trace} {s : Sheet} {l : Line} {left : Trace} {kept : Sheet} {out : List ℕ} → Reached r → LinePrints r s l out left kept → (carried r.walk s l ≡ record { output = out; walk = left.walk; sheet = kept }) × Reached left
 unfolding carry_out carried_end next number_of walk_after
 line_does {r} {s = s} {l = l} h (formless f) = (ap (λ f. carry_out l.number f r.walk s) f, h)
 line_does {r} {s = s} {l = l} h (silent c a f z) = (walk_line l.number (form_of l.bytes) r.walk s c a f ∙ rw z, reached-next h c)
