@@ -188,6 +188,7 @@ triangle_among = no_distance (points triangle) (points rectangle) (omega arith) 
     among p (Memᴰ.head e) = Memᴰ.head e
     among p (Memᴰ.tail (Memᴰ.head e)) = Memᴰ.tail (Memᴰ.head e)
     among p (Memᴰ.tail (Memᴰ.tail (Memᴰ.head e))) = Memᴰ.tail (Memᴰ.tail (Memᴰ.head e))
+    among p (Memᴰ.tail (Memᴰ.tail (Memᴰ.tail h))) = elim h [ ]
 
 -- Refused in one order, refused in the other, and with nothing else.
 refused_exchanged : comparison_number odd far ≢ 0

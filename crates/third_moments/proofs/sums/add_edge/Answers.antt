@@ -10,12 +10,13 @@ use Rattle.integers.proofs.SignedCode.{code}
 use Rattle.integers.proofs.SizedNumbers.{i64, called, Sized, sized, fits, is_plain}
 use Rattle.outline.specs.declared.Position.{Position}
 use Rattle.outline.specs.EdgeSums.{cross, over}
+use Rattle.outline.specs.ListCall.{beyond}
 use Rattle.outline.proofs.Limits.{never_over, beyond_not}
 use Rattle.third_order.specs.declared.ThirdTotals.{ThirdTotals}
 use Rattle.third_order.specs.ThirdTerms.{cubic, mixed, xxx20, xxy60, xyy60, yyy20}
+use Rattle.third_order.specs.ThirdLaws.{SmallThirds}
 use Rattle.third_order.proofs.OddThirds.{thirds_equal}
-use Rattle.third_moments.proofs.sums.add_edge.Statement.{statement}
-use Rattle.third_moments.proofs.sums.add_edge.Tie as tie
+use Rattle.third_moments.proofs.sums.add_edge.Goals as goal
 
 -- A coordinate as the code casts and reads it, and the cross product as it makes it of four.
 abbrev cast : ℤ → ℤ
@@ -24,25 +25,26 @@ cast z = i64 (to_z w32 (of_z w32 z))
 abbrev made : Position → Position → ℤ
 made a b = i64 (i64 (cast a.x *ℤ cast b.y) -ℤ i64 (cast b.x *ℤ cast a.y))
 
-module _ (s : tie.Start) where
-  abbrev a : Position
-  a = s.args.a
+-- What the function is given and requires.
+record Edge : Type 0 where
+  sum : ThirdTotals
+  a : Position
+  b : Position
+  small : SmallThirds sum
+  a_value : beyond 500 a ≡ false
+  b_value : beyond 500 b ≡ false
 
-  abbrev b : Position
-  b = s.args.b
-
-  abbrev sum : ThirdTotals
-  sum = s.args.sum
+module _ (s : Edge) where
+  open s use {sum, a, b, small, a_value, b_value}
 
   inside : Within (a.x ∷ a.y ∷ b.x ∷ b.y ∷ []) (500 ∷ 500 ∷ 500 ∷ 500 ∷ [])
   inside =
-      let from = beyond_not a s.pre.1.0 in
-      let to = beyond_not b s.pre.1.1 in
+      let from = beyond_not a a_value in
+      let to = beyond_not b b_value in
       (from.0, (from.1, (to.0, (to.1, tt))))
 
   abbrev operands : List Sized
   operands =
-      let small = s.pre.0 in
       sized a.x inside.0
       ∷ sized a.y inside.1.0
       ∷ sized b.x inside.1.1.0
@@ -96,69 +98,36 @@ module _ (s : tie.Start) where
   yyy20_is : i64 sum.yyy20 +ℤ made a b *ℤ cubic (cast a.y) (cast b.y) ≡ sum.yyy20 +ℤ yyy20 a b
   yyy20_is i = is_plain operands {z = i64 sum.yyy20} (search code depth 40) tt i +ℤ c_is i *ℤ cubic (y_is i) (q_is i)
 
--- The code reads the coordinates into locals, two steps each: here each is i64, and the way back to the start.
-abbrev at_x : tie.After-struct-told → tie.Start
-at_x c = c.before.before
+pub overflow_sub-c : goal.overflow_sub-c
+overflow_sub-c c =
+    let s : Edge = record { sum = c.args.sum; a = c.args.a; b = c.args.b; small = c.requires.small_thirds; a_value = c.requires.a_value; b_value = c.requires.b_value } in
+    fits (operands s) (search code depth 40) tt
 
-abbrev at_y : tie.After-struct-told2 → tie.Start
-at_y c = at_x c.before.before
+pub plus_cubic-requires : goal.plus_cubic-requires
+plus_cubic-requires c =
+    let s : Edge = record { sum = c.args.sum; a = c.args.a; b = c.args.b; small = c.requires.small_thirds; a_value = c.requires.a_value; b_value = c.requires.b_value } in
+    record { sum_value = never_over (operands s) 256000000000000000 (search code depth 40) tt; x_value = x_small s; p_value = p_small s; c_value = c_small s }
 
-abbrev at_p : tie.After-struct-told3 → tie.Start
-at_p c = at_y c.before.before
+pub plus_mixed-requires : goal.plus_mixed-requires
+plus_mixed-requires c =
+    let s : Edge = record { sum = c.args.sum; a = c.args.a; b = c.args.b; small = c.requires.small_thirds; a_value = c.requires.a_value; b_value = c.requires.b_value } in
+    record { sum_value = never_over (operands s) 768000000000000000 (search code depth 40) tt; x_value = x_small s; y_value = y_small s; p_value = p_small s; q_value = q_small s; c_value = c_small s }
 
-abbrev at-q : tie.After-struct-told4 → tie.Start
-at-q c = at_p c.before.before
+pub plus_mixed-requires-2 : goal.plus_mixed-requires-2
+plus_mixed-requires-2 c =
+    let s : Edge = record { sum = c.args.sum; a = c.args.a; b = c.args.b; small = c.requires.small_thirds; a_value = c.requires.a_value; b_value = c.requires.b_value } in
+    record { sum_value = never_over (operands s) 768000000000000000 (search code depth 40) tt; x_value = y_small s; y_value = x_small s; p_value = q_small s; q_value = p_small s; c_value = c_small s }
 
--- Then it reads a sum, and calls, four times.
-abbrev at-xxx20 : tie.After-struct-told5 → tie.Start
-at-xxx20 c = at-q c.before
+pub plus_cubic-requires-2 : goal.plus_cubic-requires-2
+plus_cubic-requires-2 c =
+    let s : Edge = record { sum = c.args.sum; a = c.args.a; b = c.args.b; small = c.requires.small_thirds; a_value = c.requires.a_value; b_value = c.requires.b_value } in
+    record { sum_value = never_over (operands s) 256000000000000000 (search code depth 40) tt; x_value = y_small s; p_value = q_small s; c_value = c_small s }
 
-abbrev at-xxy60 : tie.After-struct-told6 → tie.Start
-at-xxy60 c = at-xxx20 c.before.before
-
-abbrev at-xyy60 : tie.After-struct-told7 → tie.Start
-at-xyy60 c = at-xxy60 c.before.before
-
-abbrev at-yyy20 : tie.After-struct-told8 → tie.Start
-at-yyy20 c = at-xyy60 c.before.before
-
-plus-cubic-requires : tie.Need-plus-cubic-requires
-plus-cubic-requires c κs = let s = at-xxx20 c in (never_over (operands s) 256000000000000000 (search code depth 40) tt, (x_small s, (p_small s, c_small s)))
-
-plus-mixed-requires : tie.Need-plus-mixed-requires
-plus-mixed-requires c κs = let s = at-xxy60 c in (never_over (operands s) 768000000000000000 (search code depth 40) tt, (x_small s, (y_small s, (p_small s, (q_small s, c_small s)))))
-
-plus-mixed-requires-2 : tie.Need-plus-mixed-requires-2
-plus-mixed-requires-2 c κs = let s = at-xyy60 c in (never_over (operands s) 768000000000000000 (search code depth 40) tt, (y_small s, (x_small s, (q_small s, (p_small s, c_small s)))))
-
-plus-cubic-requires-2 : tie.Need-plus-cubic-requires-2
-plus-cubic-requires-2 c κs = let s = at-yyy20 c in (never_over (operands s) 256000000000000000 (search code depth 40) tt, (y_small s, (q_small s, c_small s)))
-
-returns : tie.Need-returns
+pub returns : goal.returns
 returns c =
-    let told-xyy60 = c.before.before in
-    let told-xxy60 = told-xyy60.before.before in
-    let told-xxx20 = told-xxy60.before.before in
-    let s = at-xxx20 told-xxx20.before in
+    let s : Edge = record { sum = c.args.sum; a = c.args.a; b = c.args.b; small = c.requires.small_thirds; a_value = c.requires.a_value; b_value = c.requires.b_value } in
     thirds_equal
-    (called (xxx20_is s) told-xxx20.plus-cubic.type-inv told-xxx20.plus-cubic.ensures)
-    (called (xxy60_is s) told-xxy60.plus-mixed.type-inv told-xxy60.plus-mixed.ensures)
-    (called (xyy60_is s) told-xyy60.plus-mixed2.type-inv told-xyy60.plus-mixed2.ensures)
-    (called (yyy20_is s) c.plus-cubic2.type-inv c.plus-cubic2.ensures)
-
-pub add_edge_spec : {M : Type 1} → statement M
-add_edge_spec =
-    tie.close
-    (tie.spec
-    (λ c. fits (operands (at_x c)) (search code depth 40) tt)
-    (λ c. fits (operands (at_y c)) (search code depth 40) tt)
-    (λ c. fits (operands (at_p c)) (search code depth 40) tt)
-    (λ c. fits (operands (at-q c)) (search code depth 40) tt)
-    (λ c. fits (operands (at-q c)) (search code depth 40) tt)
-    (λ c. fits (operands (at-q c)) (search code depth 40) tt)
-    (λ c. fits (operands (at-q c)) (search code depth 40) tt)
-    plus-cubic-requires
-    plus-mixed-requires
-    plus-mixed-requires-2
-    plus-cubic-requires-2
-    returns)
+    (called (xxx20_is s) c.plus_cubic.type_inv c.plus_cubic.ensures)
+    (called (xxy60_is s) c.plus_mixed.type_inv c.plus_mixed.ensures)
+    (called (xyy60_is s) c.plus_mixed-2.type_inv c.plus_mixed-2.ensures)
+    (called (yyy20_is s) c.plus_cubic-2.type_inv c.plus_cubic-2.ensures)
