@@ -4,7 +4,6 @@ use mathlib.Core.List.{List, [], ◌∷◌}
 use Prim.Native.Nat.{◌≤◌, ◌^◌}
 use native.Mathlib.Omega.{arith}
 use lib.IntN.{ℤ, pos, ◌+ℤ◌, ◌*ℤ◌}
-use borrow.Author.Rules.{rules}
 use Rattle.integers.proofs.Ring.{ring, quote}
 use Rattle.integers.proofs.SignedCode.{code, casts, fit32, sfits_nat_abs}
 use Rattle.integers.proofs.SizedNumbers.{Sized, sized, numbers, fits, is_plain}
@@ -12,8 +11,8 @@ use Rattle.integers.proofs.Widening.{widens}
 use Rattle.outline.specs.declared.Totals.{Totals}
 use Rattle.outline.proofs.TotalsLaws.{totals_equal}
 use Rattle.cell_ground.specs.Ground.{ground_totals, row_sums}
-use Rattle.cell_ground.proofs.row_totals.Statement.{statement}
-use Rattle.cell_ground.proofs.row_totals.Tie as tie
+use Rattle.cell_ground.proofs.row_totals.Goals.{Start}
+use Rattle.cell_ground.proofs.row_totals.Goals as goal
 
 -- ---- the code's products are the formulas, of any numbers
 
@@ -38,7 +37,7 @@ module _ (y n x xx : ℤ) where
 
 -- ---- the numbers of a call, each with a bound
 
-module _ (c : tie.Start) where
+module _ (c : Start) where
   abbrev y : ℤ
   y = pos c.args.row
 
@@ -63,7 +62,7 @@ module _ (c : tie.Start) where
   abbrev values : List ℤ
   values = numbers operands
 
-returns : tie.Need-returns
+pub returns : goal.returns
 returns c =
     totals_equal
     (is_plain (operands c) (search (casts, code) depth 40) tt)
@@ -73,28 +72,56 @@ returns c =
     (is_plain (operands c) (search (fit32 (values c) c.ranges.x, casts, code) depth 40) tt ∙ xy24_is (y c) (n c) (x c) (xx c))
     (is_plain (operands c) (search (casts, code) depth 40) tt ∙ yy12_is (y c) (n c) (x c) (xx c))
 
-pub row_totals_spec : {M : Type 1} → statement M
-row_totals_spec =
-    tie.close
-    (tie.spec
-    (λ c. search rules)
-    (λ c. search rules)
-    (λ c. fits (operands c) (search (casts, code) depth 40) tt)
-    (λ c. fits (operands c) (search (casts, code) depth 40) tt)
-    (λ c. widens c.ranges.x)
-    (λ c. fits (operands c) (search (fit32 (values c) c.ranges.x, casts, code) depth 40) tt)
-    (λ c. fits (operands c) (search (casts, code) depth 40) tt)
-    (λ c. fits (operands c) (search (fit32 (values c) c.ranges.x, casts, code) depth 40) tt)
-    (λ c. fits (operands c) (search (casts, code) depth 40) tt)
-    (λ c. fits (operands c) (search (casts, code) depth 40) tt)
-    (λ c. fits (operands c) (search (casts, code) depth 40) tt)
-    (λ c. widens c.ranges.xx)
-    (λ c. fits (operands c) (search (fit32 (values c) c.ranges.x, fit32 (values c) c.ranges.xx, casts, code) depth 40) tt)
-    (λ c. fits (operands c) (search (fit32 (values c) c.ranges.x, fit32 (values c) c.ranges.xx, casts, code) depth 40) tt)
-    (λ c. fits (operands c) (search (casts, code) depth 40) tt)
-    (λ c. fits (operands c) (search (fit32 (values c) c.ranges.x, fit32 (values c) c.ranges.xx, casts, code) depth 40) tt)
-    (λ c. fits (operands c) (search (fit32 (values c) c.ranges.x, casts, code) depth 40) tt)
-    (λ c. fits (operands c) (search (fit32 (values c) c.ranges.x, casts, code) depth 40) tt)
-    (λ c. fits (operands c) (search (casts, code) depth 40) tt)
-    (λ c. fits (operands c) (search (casts, code) depth 40) tt)
-    returns)
+pub overflow_mul-h : goal.overflow_mul-h
+overflow_mul-h c = fits (operands c) (search (casts, code) depth 40) tt
+
+pub overflow_add-h : goal.overflow_add-h
+overflow_add-h c = fits (operands c) (search (casts, code) depth 40) tt
+
+pub overflow_cast-sx : goal.overflow_cast-sx
+overflow_cast-sx c = widens c.ranges.x
+
+pub overflow_mul-x6 : goal.overflow_mul-x6
+overflow_mul-x6 c = fits (operands c) (search (fit32 (values c) c.ranges.x, casts, code) depth 40) tt
+
+pub overflow_mul-x6-2 : goal.overflow_mul-x6-2
+overflow_mul-x6-2 c = fits (operands c) (search (casts, code) depth 40) tt
+
+pub overflow_add-x6 : goal.overflow_add-x6
+overflow_add-x6 c = fits (operands c) (search (fit32 (values c) c.ranges.x, casts, code) depth 40) tt
+
+pub overflow_mul-y6 : goal.overflow_mul-y6
+overflow_mul-y6 c = fits (operands c) (search (casts, code) depth 40) tt
+
+pub overflow_mul-y6-2 : goal.overflow_mul-y6-2
+overflow_mul-y6-2 c = fits (operands c) (search (casts, code) depth 40) tt
+
+pub overflow_mul-result : goal.overflow_mul-result
+overflow_mul-result c = fits (operands c) (search (casts, code) depth 40) tt
+
+pub overflow_cast-result : goal.overflow_cast-result
+overflow_cast-result c = widens c.ranges.xx
+
+pub overflow_add-result : goal.overflow_add-result
+overflow_add-result c = fits (operands c) (search (fit32 (values c) c.ranges.x, fit32 (values c) c.ranges.xx, casts, code) depth 40) tt
+
+pub overflow_mul-result-2 : goal.overflow_mul-result-2
+overflow_mul-result-2 c = fits (operands c) (search (fit32 (values c) c.ranges.x, fit32 (values c) c.ranges.xx, casts, code) depth 40) tt
+
+pub overflow_mul-result-3 : goal.overflow_mul-result-3
+overflow_mul-result-3 c = fits (operands c) (search (casts, code) depth 40) tt
+
+pub overflow_add-result-2 : goal.overflow_add-result-2
+overflow_add-result-2 c = fits (operands c) (search (fit32 (values c) c.ranges.x, fit32 (values c) c.ranges.xx, casts, code) depth 40) tt
+
+pub overflow_mul-result-4 : goal.overflow_mul-result-4
+overflow_mul-result-4 c = fits (operands c) (search (fit32 (values c) c.ranges.x, casts, code) depth 40) tt
+
+pub overflow_mul-result-5 : goal.overflow_mul-result-5
+overflow_mul-result-5 c = fits (operands c) (search (fit32 (values c) c.ranges.x, casts, code) depth 40) tt
+
+pub overflow_mul-result-6 : goal.overflow_mul-result-6
+overflow_mul-result-6 c = fits (operands c) (search (casts, code) depth 40) tt
+
+pub overflow_add-result-3 : goal.overflow_add-result-3
+overflow_add-result-3 c = fits (operands c) (search (casts, code) depth 40) tt
