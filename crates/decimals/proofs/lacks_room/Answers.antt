@@ -7,7 +7,7 @@ use Rattle.integers.proofs.Cases.{difference_test}
 use Rattle.decimals.proofs.lacks_room.Goals as goal
 
 pub returns-then-size-room : goal.returns-then-size-room
-returns-then-size-room c = sym (lt-ltb c.before.args.size (c.before.args.at + c.before.args.room) (omega arith))
+returns-then-size-room c = sym (lt-ltb c.args.size (c.args.at + c.args.room) (omega arith))
 
 pub returns : goal.returns
-returns c = difference_test c.before.args.size c.before.args.room c.before.args.at (omega arith)
+returns c = difference_test c.args.size c.args.room c.args.at (omega arith)

@@ -11,37 +11,27 @@ use Rattle.decimals.specs.Decimal.{signed, field}
 use Rattle.decimals.specs.Buffer.{field_room}
 use Rattle.decimals.proofs.BufferLaws.{has_room, not_written, text_written, fits_behind, written_behind}
 use Rattle.decimals.proofs.FieldLaws.{field_fits}
-use Rattle.decimals.proofs.put_field.Goals.{Else-lacks_room, Start}
 use Rattle.decimals.proofs.put_field.Goals as goal
 
-held : (s : Start) → to_z w64 (of_z w64 s.args.n) ≡ s.args.n
-held s = to_z-of_z w64 s.args.n s.ranges.n
-
-fits : (c : Else-lacks_room) → (let s = c.before.before.before in s.args.at + length (field s.args.n) ≤ length s.args.out.now)
-fits c =
-    let s = c.before.before.before in
-    omega (arith, has_room field_room s.args.out.now s.args.at c.before.lacks_room.ensures c.if-lacks_room.false, field_fits s.args.n s.ranges.n)
-
 pub returns-then-lacks_room : goal.returns-then-lacks_room
-returns-then-lacks_room c = let s = c.before.before.before in not_written field_room s.args.out.now s.args.at c.before.lacks_room.ensures (field s.args.n) c.if-lacks_room.true
+returns-then-lacks_room c = not_written field_room c.args.out.now c.args.at c.lacks_room.ensures (field c.args.n) c.if-lacks_room.true
 
 pub bounds-out-at : goal.bounds-out-at
-bounds-out-at c = omega (arith, fits c)
+bounds-out-at c = omega (arith, has_room field_room c.args.out.now c.args.at c.lacks_room.ensures c.if-lacks_room.false)
 
 pub overflow_add-at : goal.overflow_add-at
-overflow_add-at c = let inside = bounds-out-at c.before in search rules
+overflow_add-at c = search rules
 
 pub put_number-requires : goal.put_number-requires
 put_number-requires c =
-    let roomy = c.before in
-    let s = roomy.before.before.before in
-    rw (held s) (fits_behind s.args.out.now s.args.at _ (signed s.args.n) (fits roomy))
+    let fits : c.args.at + length (field c.args.n) ≤ length c.args.out.now = omega (arith, has_room field_room c.args.out.now c.args.at c.lacks_room.ensures c.if-lacks_room.false, field_fits c.args.n c.ranges.n) in
+    rw (to_z-of_z w64 c.args.n c.ranges.n) (fits_behind c.args.out.now c.args.at _ (signed c.args.n) fits)
 
 pub shape_of-out : goal.shape_of-out
-shape_of-out c = c.before.before.put_number.auto.0 ∙ simp length-set
+shape_of-out c = c.put_number.auto.out ∙ simp length-set
 
 pub returns : goal.returns
 returns c =
-    let roomy = c.before.before.before.before in
-    let s = roomy.before.before.before in
-    text_written field_room s.args.out.now s.args.at roomy.before.lacks_room.ensures (field s.args.n) roomy.if-lacks_room.false (written_behind s.args.out.now s.args.at _ (signed s.args.n) (fits roomy) (rw (held s) at c.before.before.put_number.ensures))
+    let fits : c.args.at + length (field c.args.n) ≤ length c.args.out.now = omega (arith, has_room field_room c.args.out.now c.args.at c.lacks_room.ensures c.if-lacks_room.false, field_fits c.args.n c.ranges.n) in
+    let held : to_z w64 (of_z w64 c.args.n) ≡ c.args.n = to_z-of_z w64 c.args.n c.ranges.n in
+    text_written field_room c.args.out.now c.args.at c.lacks_room.ensures (field c.args.n) c.if-lacks_room.false (written_behind c.args.out.now c.args.at _ (signed c.args.n) fits (rw held at c.put_number.ensures))

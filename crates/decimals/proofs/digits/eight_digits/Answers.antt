@@ -5,12 +5,8 @@ use Rattle.decimals.proofs.digits.eight_digits.Goals as goal
 
 pub four_digits-requires : goal.four_digits-requires
 four_digits-requires c =
-    let half = c.before.before.before in
-    let s = half.before.before.before in
-    record { n_bound = omega arith; at_in_bounds = half_fits 4 s.args.n s.requires.at_in_bounds half.four_digits-a.ensures }
+    record { n_bound = omega arith; at_in_bounds = half_fits 4 c.args.n c.requires.at_in_bounds c.four_digits-a.ensures }
 
 pub returns : goal.returns
 returns c =
-    let half = c.before.before.before.before.before.before in
-    let s = half.before.before.before in
-    halves_written 4 s.args.n s.requires.at_in_bounds half.four_digits-a.ensures c.before.before.four_digits.ensures
+    halves_written 4 c.args.n c.requires.at_in_bounds c.four_digits-a.ensures c.four_digits.ensures

@@ -5,12 +5,8 @@ use Rattle.decimals.proofs.digits.four_digits.Goals as goal
 
 pub two_digits-requires : goal.two_digits-requires
 two_digits-requires c =
-    let half = c.before.before.before in
-    let s = half.before.before.before in
-    record { n_bound = omega arith; at_in_bounds = half_fits 2 s.args.n s.requires.at_in_bounds half.two_digits-a.ensures }
+    record { n_bound = omega arith; at_in_bounds = half_fits 2 c.args.n c.requires.at_in_bounds c.two_digits-a.ensures }
 
 pub returns : goal.returns
 returns c =
-    let half = c.before.before.before.before.before.before in
-    let s = half.before.before.before in
-    halves_written 2 s.args.n s.requires.at_in_bounds half.two_digits-a.ensures c.before.before.two_digits.ensures
+    halves_written 2 c.args.n c.requires.at_in_bounds c.two_digits-a.ensures c.two_digits.ensures

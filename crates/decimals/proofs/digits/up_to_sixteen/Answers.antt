@@ -4,16 +4,12 @@ use Rattle.decimals.proofs.DigitLaws.{shorter, rest_fits, number_written}
 use Rattle.decimals.proofs.digits.up_to_sixteen.Goals as goal
 
 pub up_to_eight-a-requires : goal.up_to_eight-a-requires
-up_to_eight-a-requires c = let s = c.before.before.before in (omega (arith, s.requires.n_bound), omega (arith, s.requires.n_in_bounds, shorter 8 s.args.n (omega arith)))
+up_to_eight-a-requires c = record { n_bound = omega (arith, c.requires.n_bound); n_in_bounds = omega (arith, c.requires.n_in_bounds, shorter 8 c.args.n (omega arith)) }
 
 pub eight_digits-requires : goal.eight_digits-requires
 eight_digits-requires c =
-    let first = c.before.before.before in
-    let s = first.before.before.before.before in
-    record { n_bound = omega arith; at_in_bounds = rest_fits 8 s.args.n (omega arith) s.requires.n_in_bounds first.up_to_eight-a.ensures }
+    record { n_bound = omega arith; at_in_bounds = rest_fits 8 c.args.n (omega arith) c.requires.n_in_bounds c.up_to_eight-a.ensures }
 
 pub returns : goal.returns
 returns c =
-    let first = c.before.before.before.before.before.before in
-    let s = first.before.before.before.before in
-    number_written 8 s.args.n (omega arith) s.requires.n_in_bounds first.up_to_eight-a.ensures c.before.before.eight_digits.ensures
+    number_written 8 c.args.n (omega arith) c.requires.n_in_bounds c.up_to_eight-a.ensures c.eight_digits.ensures

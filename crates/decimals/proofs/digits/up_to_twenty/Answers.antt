@@ -4,16 +4,12 @@ use Rattle.decimals.proofs.DigitLaws.{shorter, rest_fits, number_written}
 use Rattle.decimals.proofs.digits.up_to_twenty.Goals as goal
 
 pub up_to_sixteen-a-requires : goal.up_to_sixteen-a-requires
-up_to_sixteen-a-requires c = let s = c.before.before.before in (omega arith, omega (arith, s.requires, shorter 8 s.args.n (omega arith)))
+up_to_sixteen-a-requires c = record { n_bound = omega arith; n_in_bounds = omega (arith, c.requires, shorter 8 c.args.n (omega arith)) }
 
 pub eight_digits-requires : goal.eight_digits-requires
 eight_digits-requires c =
-    let first = c.before.before.before in
-    let s = first.before.before.before.before in
-    record { n_bound = omega arith; at_in_bounds = rest_fits 8 s.args.n (omega arith) s.requires first.up_to_sixteen-a.ensures }
+    record { n_bound = omega arith; at_in_bounds = rest_fits 8 c.args.n (omega arith) c.requires c.up_to_sixteen-a.ensures }
 
 pub returns : goal.returns
 returns c =
-    let first = c.before.before.before.before.before.before in
-    let s = first.before.before.before.before in
-    number_written 8 s.args.n (omega arith) s.requires first.up_to_sixteen-a.ensures c.before.before.eight_digits.ensures
+    number_written 8 c.args.n (omega arith) c.requires c.up_to_sixteen-a.ensures c.eight_digits.ensures
