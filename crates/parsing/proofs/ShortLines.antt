@@ -1,13 +1,13 @@
 -- Where a line is read, `place`, and in what: with `few` bytes left, fewer than 14, in their copy over the first of 14 newlines, else where it stands.
-use Prim.Native.Nat.{ℕ, suc, ◌+◌, ◌-◌, ◌≤◌, ◌<◌, ◌^◌, min}
-use mathlib.Core.Path.{◌≡◌, refl, sym, ap, ◌∙◌}
+use Prim.Native.Nat.{ℕ, suc, ◌+◌, ◌-◌, ◌≤◌, ◌<◌, ◌^◌}
+use mathlib.Core.Path.{◌≡◌, sym, ap, ◌∙◌}
 use mathlib.Core.Bool.{Bool, true, false, cond}
-use mathlib.Core.List.{List, [], ◌∷◌, ◌++◌}
+use mathlib.Core.List.{List, [], ◌∷◌}
 use native.Mathlib.Omega.{arith}
-use lib.Dec.{leb, ltb}
-use lib.ListN.{length, take, drop, length-drop, length-append, drop_of_length-le, replicate, get_or-replicate}
-use lib.Seq.{take_all, take-length, drop-cons}
-use borrow.Author.Tests.{leb-true, leb-false, ltb-true, ltb-false}
+use lib.Dec.{ltb}
+use lib.ListN.{length, drop, length-drop, length-append, replicate, get_or-replicate}
+use lib.Seq.{drop-cons}
+use borrow.Author.Tests.{ltb-true, ltb-false}
 use Rattle.parsing.specs.Grammar.{fields, is_byte, letter_of, form_of_fields, form_of}
 use Rattle.newlines.specs.LineLength.{line_length}
 use Rattle.parsing.specs.ReadForm.{Front, formed, form_at}
@@ -15,18 +15,6 @@ use Rattle.parsing.specs.private.Parts.{line_front, copied_onto}
 use Rattle.parsing.proofs.FrontLaws.{front_closed, front_offset, front_next}
 
 -- ---- the copy
-
--- Past the end there is nothing to drop.
-pub drop_within : (s : List ℕ) (at : ℕ) {k : ℕ} → k ≡ min at (length s) → drop k s ≡ drop at s
-drop_within s at {k} e = go (leb (length s) at) refl
-  where
-    go : (t : Bool) → leb (length s) at ≡ t → drop k s ≡ drop at s
-    go true q = let h = leb-true (length s) at q in drop_of_length-le s {i = k} (omega arith) ∙ sym (drop_of_length-le s {i = at} h)
-    go false q = let i : k ≡ at = omega (arith, leb-false (length s) at q) in ap (λ (j : ℕ). drop j s) i
-
--- What the kit's `copy` writes of the bytes from `at` on.
-pub copy_over : (s others : List ℕ) (at : ℕ) → let bs = take (length s - at) (drop at s) in take (length bs) bs ++ drop (length bs) others ≡ copied_onto (drop at s) others
-copy_over s others at = rw (take_all (length s - at) (drop at s) (simp length-drop (omega arith)), take-length (drop at s))
 
 abbrev newlines : List ℕ
 newlines = replicate 14 10

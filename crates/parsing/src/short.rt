@@ -29,7 +29,7 @@ pub(crate) fn copy_few(s: &[u8], at: usize, few: bool, line: &mut [u8])
 {
     if few {
         let start = lesser(at, s.len());
-        bytes::copy(&s[start..], line);
+        line[..s.len() - start].copy_from_slice(&s[start..]);
     }
 }
 
