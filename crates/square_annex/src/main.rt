@@ -2,10 +2,13 @@
 // a comparison of the two would compare a thing with itself.
 #![tactic(auto)]
 
-ghost use Rattle.std.specs.Prelude.{◌≡◌, ◌+◌, ◌≤◌, length};
+ghost use Rattle.std.specs.Prelude.{◌≡◌, ◌+◌, ◌≤◌, true, length};
+ghost use Rattle.std.specs.Io.KnownBytes.{Appends};
 ghost use Rattle.decimals.specs.Buffer.{field_room, Written};
 ghost use Rattle.column_sums.specs.Annex.{square_sums};
 ghost use Rattle.square_annex.specs.Printed.{line_of, lines_of};
+
+use std::io::Write;
 
 // An entry's digits and a newline. Answers the place past them.
 fn put_line(out: &mut [u8], at: usize, entry: u32) -> usize
@@ -33,21 +36,22 @@ fn annex(out: &mut [u8]) -> usize
     at
 }
 
-// To standard output; answers whether all of it is written. No contract can say what a write does: here it says what `write_all` is lent.
-fn print(text: &[u8]) -> bool
+// To a writer; answers whether all of it is written.
+fn print<W: Write>(output: &mut W, text: &[u8]) -> bool
     requires { text.now ≡ lines_of square_sums }
+    ensures { result ≡ true → Appends (W.contents output.old) (W.contents output.new) (lines_of square_sums) }
 {
-    io::write_all(1, text)
+    output.write_all(text).is_ok()
 }
 
-fn report_unwritten() {
-    io::write_all(2, b"square_annex: the output could not be written\n");
+fn report_unwritten(rt: &impl Eprint) {
+    let _ = eprintln!(rt; "square_annex: the output could not be written");
 }
 
-fn main() {
-    let mut out = io::large_buffer();
+fn main(rt: HostRuntime) {
+    let mut out = [0; 65536];
     let size = annex(&mut out);
-    if !print(&out[..size]) {
-        report_unwritten();
+    if !print(&mut rt.stdout(), &out[..size]) {
+        report_unwritten(&rt);
     }
 }
