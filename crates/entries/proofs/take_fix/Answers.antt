@@ -1,5 +1,5 @@
 -- `entries::take_fix` meets its contract, by the three answers of `fix_point`.
-use mathlib.Core.Path.{◌≡◌, sym, ◌∙◌, ap}
+use mathlib.Core.Path.{sym, ◌∙◌, ap}
 use Rattle.outline_answers.specs.WalkAnswers.{entry_reading}
 use Rattle.fixes.specs.FixAnswers.{reading}
 use Rattle.entries.proofs.FixCases.{answered_33, answered_1, answered-at}

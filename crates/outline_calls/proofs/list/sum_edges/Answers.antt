@@ -1,14 +1,12 @@
 use mathlib.Core.Path.{◌≡◌, refl}
-use mathlib.Core.List.{List}
 use Prim.Native.Nat.{◌-◌}
 use native.Mathlib.Omega.{arith}
-use lib.IntN.{ℤ}
 use lib.ListN.{length, get_or}
 use Rattle.outline.specs.EdgeSums.{six, plus}
 use Rattle.outline.specs.ListCall.{points as points_of}
 use Rattle.outline.specs.WalkCalls.{origin}
 use Rattle.outline.proofs.IndexLaws.{length-points}
-use Rattle.outline.proofs.Limits.{OutlineList, point_inside}
+use Rattle.outline.proofs.Limits.{point_inside}
 use Rattle.outline.proofs.EdgeSteps.{summed_first, summed_next, summed_closed}
 use Rattle.outline_calls.proofs.ListSteps.{outline-list, sum_within}
 use Rattle.outline_calls.proofs.list.sum_edges.Goals as goal
