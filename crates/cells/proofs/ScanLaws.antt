@@ -117,7 +117,7 @@ decided_next rs r (Sums s) (b, (o, e)) = go (bad_run r) refl (lies_after (last_o
         → Decided (rs ++ r ∷ []) (cond x (BadRun (length rs)) (cond (not y) (OutOfOrder (length rs)) (Sums (held (plus_sums (sums_of s) (sums_over (cells_of r)))))))
     go true p y q = (rw (bad_snoc rs r, b, p), lowest_here breaks_six six_local rs r (good_at rs b) (six-here rs r ∙ p))
     go false p false q = (rw (bad_snoc rs r, b, p), (rw (order_snoc rs r, o, q), lowest_here breaks_seven seven_local rs r (ordered_at rs o) (seven-here rs r ∙ ap not q)))
-    go false p true q = (rw (bad_snoc rs r, b, p), (rw (order_snoc rs r, o, q), rw (cells_snoc rs r, sums-append, e)))
+    go false p true q = (rw (bad_snoc rs r, b, p), (rw (order_snoc rs r, o, q), rw (cells_snoc rs r, sums-append, ← e)))
 decided_next rs r (BadRun i) (b, h) = (rw (bad_snoc rs r, b), lowest_stays breaks_six six_local rs r h)
 decided_next rs r (OutOfOrder i) (b, (o, h)) = go (bad_run r) refl
   where
@@ -163,7 +163,7 @@ unfolding region_call ground_of
 answered rs {s} h l = go s.found h.found
   where
     go : (a : Found) → Decided rs a → reading (answer_of a) ≡ region_call rs
-    go (Sums s) (b, (o, e)) = rw (few rs l, b, o, e)
+    go (Sums s) (b, (o, e)) = rw (few rs l, b, o, ← e)
     go (BadRun i) (b, k) = rw (few rs l, b, lowest_is breaks_six rs k)
     go (OutOfOrder i) (b, (o, k)) = rw (few rs l, b, o, lowest_is breaks_seven rs k)
 

@@ -235,7 +235,7 @@ fn answer_of(scan: Scan) -> RegionAnswer
     }
 }
 
-// `region_totals`, with the table of the annex lent. Thin: what a run adds, and what all come to, is told by covered functions.
+// `region_totals`, with the table of the annex lent. Thin: what a run adds, and what all come to, is told by functions of their own.
 fn totals_by_table(runs: &[Run], squares: &[u32]) -> RegionAnswer
     requires { squares.now ≡ square_sums }
     ensures { reading result ≡ region_call runs.now }

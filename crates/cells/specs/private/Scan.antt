@@ -7,7 +7,6 @@ use Rattle.cell_ground.specs.private.SumBounds.{SumsWithin}
 use Rattle.cells.specs.declared.CellSums as Code
 use Rattle.cells.specs.declared.Run.{Run}
 use Rattle.cells.specs.declared.Found.{Found}
-use Rattle.cells.specs.declared.Found.TheVariants as Found
 use Rattle.cells.specs.declared.Scan.{Scan}
 use Rattle.cells.specs.declared.RegionAnswer.{RegionAnswer}
 use Rattle.cells.specs.declared.RegionAnswer.TheVariants.{Accepted, BadRun, OutOfOrder}
