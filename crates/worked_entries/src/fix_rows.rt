@@ -36,63 +36,63 @@ fn point_told(answer: FixAnswer) -> Position
 }
 
 // Number, x and y; then the row ends.
-fn show_answer(answer: FixAnswer) {
-    show_natural(answer.number() as u64);
-    show_position(point_told(answer));
-    end_row();
+fn show_answer(rt: &impl Print, answer: FixAnswer) {
+    show_natural(rt, answer.number() as u64);
+    show_position(rt, point_told(answer));
+    end_row(rt);
 }
 
 // Asked: the bits of east and of north. Answered: number, x, y.
-fn fix_row(east: u32, north: u32) {
-    show_label(b"fix");
-    show_natural(east as u64);
-    show_natural(north as u64);
-    show_answer(fix_point(fix_of(east, north)));
+fn fix_row(rt: &impl Print, east: u32, north: u32) {
+    show_label(rt, b"fix");
+    show_natural(rt, east as u64);
+    show_natural(rt, north as u64);
+    show_answer(rt, fix_point(fix_of(east, north)));
 }
 
 // A fix of which one float is not a number. Asked: the bits of the other. Answered: the same.
-fn no_number_row(other: u32, fix: Fix) {
-    show_label(b"fix-nan");
-    show_natural(other as u64);
-    show_answer(fix_point(fix));
+fn no_number_row(rt: &impl Print, other: u32, fix: Fix) {
+    show_label(rt, b"fix-nan");
+    show_natural(rt, other as u64);
+    show_answer(rt, fix_point(fix));
 }
 
-fn no_east_row(north: u32) {
+fn no_east_row(rt: &impl Print, north: u32) {
     let fix = Fix {
         east: no_number(),
         north: float_of(north),
     };
-    no_number_row(north, fix);
+    no_number_row(rt, north, fix);
 }
 
-fn no_north_row(east: u32) {
+fn no_north_row(rt: &impl Print, east: u32) {
     let fix = Fix {
         east: float_of(east),
         north: no_number(),
     };
-    no_number_row(east, fix);
+    no_number_row(rt, east, fix);
 }
 
 // One float as east, then as north.
-fn both_rows(bits: u32) {
-    fix_row(bits, NORTH);
-    fix_row(EAST, bits);
+fn both_rows(rt: &impl Print, bits: u32) {
+    fix_row(rt, bits, NORTH);
+    fix_row(rt, EAST, bits);
 }
 
-fn turning_rows() {
+fn turning_rows(rt: &impl Print) {
     let mut i = 0;
     while i < 28 {
-        both_rows(FLOATS[i]);
+        both_rows(rt, FLOATS[i]);
         i += 1;
     }
 }
 
-pub(crate) fn fix_rows() {
-    turning_rows();
-    fix_row(INFINITY, TOO_FAR);
-    fix_row(FAR_EAST, INFINITY);
-    no_east_row(NORTH);
-    no_east_row(TOO_FAR);
-    no_north_row(EAST);
-    no_north_row(FAR_EAST);
+pub(crate) fn fix_rows(rt: &impl Print) {
+    turning_rows(rt);
+    fix_row(rt, INFINITY, TOO_FAR);
+    fix_row(rt, FAR_EAST, INFINITY);
+    no_east_row(rt, NORTH);
+    no_east_row(rt, TOO_FAR);
+    no_north_row(rt, EAST);
+    no_north_row(rt, FAR_EAST);
 }

@@ -10,8 +10,8 @@ mod full_walk;
 mod show;
 mod walk_rows;
 
-fn main() {
-    fix_rows::fix_rows();
-    walk_rows::call_rows();
-    walk_rows::full_rows();
+fn main(rt: HostRuntime) {
+    fix_rows::fix_rows(&rt);
+    walk_rows::call_rows(&rt);
+    walk_rows::full_rows(&rt);
 }

@@ -1,53 +1,47 @@
-// A row on standard output: its label, then fields, each after a tab.
+// A row: its label, then fields, each after a tab. What cannot be written is left out.
 use crate::floats::bits_of;
 use outline::{Position, Totals};
 
-pub(crate) fn show_label(label: &[u8]) {
-    io::write_all(1, label);
+pub(crate) fn show_label(rt: &impl Print, label: &[u8]) {
+    let _ = rt.write_all(label);
 }
 
-pub(crate) fn show_word(word: &[u8]) {
-    io::write_all(1, b"\t");
-    io::write_all(1, word);
+pub(crate) fn show_word(rt: &impl Print, word: &[u8]) {
+    let _ = rt.write_all(b"\t");
+    let _ = rt.write_all(word);
 }
 
-pub(crate) fn show_natural(n: u64) {
-    io::write_all(1, b"\t");
-    io::print_decimal(1, n);
+pub(crate) fn show_natural(rt: &impl Print, n: u64) {
+    let _ = print!(rt; "\t{n}");
 }
 
-fn show_integer(n: i64) {
-    if n < 0 {
-        io::write_all(1, b"\t-");
-        io::print_decimal(1, decimals::magnitude(n));
-        return;
-    }
-    show_natural(decimals::magnitude(n));
+fn show_integer(rt: &impl Print, n: i64) {
+    let _ = print!(rt; "\t{n}");
 }
 
-fn show_coordinate(x: i32) {
-    show_integer(x as i64);
+fn show_coordinate(rt: &impl Print, x: i32) {
+    show_integer(rt, x as i64);
 }
 
-pub(crate) fn show_position(p: Position) {
-    show_coordinate(p.x);
-    show_coordinate(p.y);
+pub(crate) fn show_position(rt: &impl Print, p: Position) {
+    show_coordinate(rt, p.x);
+    show_coordinate(rt, p.y);
 }
 
 // By its bits, as a number.
-pub(crate) fn show_float(f: f32) {
-    show_natural(bits_of(f) as u64);
+pub(crate) fn show_float(rt: &impl Print, f: f32) {
+    show_natural(rt, bits_of(f) as u64);
 }
 
-pub(crate) fn show_totals(t: Totals) {
-    show_integer(t.a2);
-    show_integer(t.x6);
-    show_integer(t.y6);
-    show_integer(t.xx12);
-    show_integer(t.xy24);
-    show_integer(t.yy12);
+pub(crate) fn show_totals(rt: &impl Print, t: Totals) {
+    show_integer(rt, t.a2);
+    show_integer(rt, t.x6);
+    show_integer(rt, t.y6);
+    show_integer(rt, t.xx12);
+    show_integer(rt, t.xy24);
+    show_integer(rt, t.yy12);
 }
 
-pub(crate) fn end_row() {
-    io::write_all(1, b"\n");
+pub(crate) fn end_row(rt: &impl Print) {
+    let _ = rt.write_all(b"\n");
 }

@@ -13,56 +13,56 @@ use outline::{Sheet, Walk};
 use receiver::Entry;
 use walk_state::{new_sheet, new_walk};
 
-fn show_entry(e: Entry) {
+fn show_entry(rt: &impl Print, e: Entry) {
     match e {
         Entry::Fix(_) => {
-            show_word(b"fix");
+            show_word(rt, b"fix");
         }
         Entry::Outage(_) => {
-            show_word(b"outage");
+            show_word(rt, b"outage");
         }
     }
 }
 
-fn show_call(call: Call) {
+fn show_call(rt: &impl Print, call: Call) {
     match call {
         Call::Entry(e) => {
-            show_entry(e);
+            show_entry(rt, e);
         }
         Call::Begin(_) => {
-            show_word(b"begin");
+            show_word(rt, b"begin");
         }
         Call::End => {
-            show_word(b"end");
+            show_word(rt, b"end");
         }
     }
 }
 
 // The call; its number, the walk's count and longest outage afterwards; with an end also the six totals and the longest outage that it answers.
-fn show_told(call: Call, told: Told) {
-    show_call(call);
-    show_natural(told.number as u64);
+fn show_told(rt: &impl Print, call: Call, told: Told) {
+    show_call(rt, call);
+    show_natural(rt, told.number as u64);
     let walk = told.walk;
-    show_natural(walk.count as u64);
-    show_float(walk.outage);
+    show_natural(rt, walk.count as u64);
+    show_float(rt, walk.outage);
     if let Call::End = call {
         let totals = told.totals;
-        show_totals(totals);
-        show_float(told.outage);
+        show_totals(rt, totals);
+        show_float(rt, told.outage);
     }
-    end_row();
+    end_row(rt);
 }
 
 // The call that is drawn next, with its step, from 1 on.
-fn call_row(step: u64, given: Given) -> Given
+fn call_row(rt: &impl Print, step: u64, given: Given) -> Given
     ensures { result ≡ after_call given }
 {
     let drawn = drawn_call(given.state);
     let call = drawn.call;
     let told = carry_out(call, given.walk, given.sheet);
-    show_label(b"call");
-    show_natural(step);
-    show_told(call, told);
+    show_label(rt, b"call");
+    show_natural(rt, step);
+    show_told(rt, call, told);
     let walk = told.walk;
     let sheet = told.sheet;
     Given {
@@ -73,7 +73,7 @@ fn call_row(step: u64, given: Given) -> Given
 }
 
 // 400 calls, first on a closed walk and a new sheet.
-pub(crate) fn call_rows() {
+pub(crate) fn call_rows(rt: &impl Print) {
     let mut given = Given {
         state: FIRST_STATE,
         walk: new_walk(),
@@ -81,34 +81,39 @@ pub(crate) fn call_rows() {
     };
     let mut step = 1;
     while step <= 400 {
-        given = call_row(step, given);
+        given = call_row(rt, step, given);
         step += 1;
     }
 }
 
 // One call on a full walk.
-fn full_row(call: Call, w: Walk, s: Sheet) -> Told
+fn full_row(rt: &impl Print, call: Call, w: Walk, s: Sheet) -> Told
     ensures { told_reading result ≡ carried_out call w s }
 {
     let told = carry_out(call, w, s);
-    show_label(b"full");
-    show_told(call, told);
+    show_label(rt, b"full");
+    show_told(rt, call, told);
     told
 }
 
 // The same of a fix, with the bits of its east and of its north.
-fn full_fix_row(east: u32, north: u32, w: Walk, s: Sheet) -> Told
+fn full_fix_row(rt: &impl Print, east: u32, north: u32, w: Walk, s: Sheet) -> Told
     ensures { told_reading result ≡ carried_out (Call.Entry (Entry.Fix (fix_of east north))) w s }
 {
     let fix = fix_of(east, north);
-    full_row(Call::Entry(Entry::Fix(fix)), w, s)
+    full_row(rt, Call::Entry(Entry::Fix(fix)), w, s)
 }
 
 // A fix at the peg, one past the limits, one at no place; then an outage and the end.
-pub(crate) fn full_rows() {
-    let peg = full_fix_row(0, 0, full_walk(), new_sheet());
-    let far = full_fix_row(TOO_FAR, 0, peg.walk, peg.sheet);
-    let nowhere = full_fix_row(0, INFINITY, far.walk, far.sheet);
-    let longer = full_row(Call::Entry(Entry::Outage(5.0)), nowhere.walk, nowhere.sheet);
-    full_row(Call::End, longer.walk, longer.sheet);
+pub(crate) fn full_rows(rt: &impl Print) {
+    let peg = full_fix_row(rt, 0, 0, full_walk(), new_sheet());
+    let far = full_fix_row(rt, TOO_FAR, 0, peg.walk, peg.sheet);
+    let nowhere = full_fix_row(rt, 0, INFINITY, far.walk, far.sheet);
+    let longer = full_row(
+        rt,
+        Call::Entry(Entry::Outage(5.0)),
+        nowhere.walk,
+        nowhere.sheet,
+    );
+    full_row(rt, Call::End, longer.walk, longer.sheet);
 }

@@ -14,21 +14,21 @@ fn annex_entry(k: usize) -> i64
 }
 
 // Asked: k. Answered: the entry.
-fn square_sum_row(k: usize) {
-    show_label(b"square-sum");
-    show_natural(k as u64);
-    show_integer(annex_entry(k));
-    end_row();
+fn square_sum_row(rt: &impl Print, k: usize) {
+    show_label(rt, b"square-sum");
+    show_natural(rt, k as u64);
+    show_integer(rt, annex_entry(k));
+    end_row(rt);
 }
 
-pub(crate) fn annex_rows() {
-    square_sum_row(0);
-    square_sum_row(1);
-    square_sum_row(2);
-    square_sum_row(3);
-    square_sum_row(4);
-    square_sum_row(5);
-    square_sum_row(1023);
-    square_sum_row(1024);
-    square_sum_row(1025);
+pub(crate) fn annex_rows(rt: &impl Print) {
+    square_sum_row(rt, 0);
+    square_sum_row(rt, 1);
+    square_sum_row(rt, 2);
+    square_sum_row(rt, 3);
+    square_sum_row(rt, 4);
+    square_sum_row(rt, 5);
+    square_sum_row(rt, 1023);
+    square_sum_row(rt, 1024);
+    square_sum_row(rt, 1025);
 }

@@ -20,101 +20,101 @@ use outline_replies::{totals_of_end, totals_of_list, totals_of_map};
 use show::{end_row, show_coordinate, show_integer, show_label, show_natural, show_totals};
 
 // A triangle with a corner at the limit or past it. Asked: its x. Answered: number, six totals.
-fn limit_row(x: i32) {
+fn limit_row(rt: &impl Print, x: i32) {
     let answer = plots::triangle_totals(x);
-    show_label(b"limit");
-    show_coordinate(x);
-    show_natural(answer.number() as u64);
-    show_totals(totals_of_list(answer));
-    end_row();
+    show_label(rt, b"limit");
+    show_coordinate(rt, x);
+    show_natural(rt, answer.number() as u64);
+    show_totals(rt, totals_of_list(answer));
+    end_row(rt);
 }
 
 // A point for a walk that has 1,024, within the limits or outside them. Asked: its coordinates. Answered: number, count and six totals of the walk.
-fn point_row(p: Position) {
+fn point_row(rt: &impl Print, p: Position) {
     let reply = plots::point_1025(p);
     let answer = reply.answer;
     let walk = reply.walk;
     let totals = walk.totals;
-    show_label(b"point-1025");
-    show_coordinate(p.x);
-    show_coordinate(p.y);
-    show_natural(answer.number() as u64);
-    show_natural(walk.count as u64);
-    show_totals(totals);
-    end_row();
+    show_label(rt, b"point-1025");
+    show_coordinate(rt, p.x);
+    show_coordinate(rt, p.y);
+    show_natural(rt, answer.number() as u64);
+    show_natural(rt, walk.count as u64);
+    show_totals(rt, totals);
+    end_row(rt);
 }
 
 // The square doubled by a map. Asked: rounds. Answered: number, six totals.
-fn double_row(rounds: usize)
+fn double_row(rt: &impl Print, rounds: usize)
     requires { rounds ≤ 256 }
 {
     let answer = plots::doubled_square(rounds);
-    show_label(b"double");
-    show_natural(rounds as u64);
-    show_natural(answer.number() as u64);
-    show_totals(totals_of_map(answer));
-    end_row();
+    show_label(rt, b"double");
+    show_natural(rt, rounds as u64);
+    show_natural(rt, answer.number() as u64);
+    show_totals(rt, totals_of_map(answer));
+    end_row(rt);
 }
 
 // An outline of 256 rounds on a sheet. Asked: how many such came earlier. Answered: number and totals of its end, then the sheet.
-fn sheet_row(earlier: u32) {
+fn sheet_row(rt: &impl Print, earlier: u32) {
     let reply = plots::sheet_of_squares(earlier);
     let answer = reply.answer;
     let sheet = reply.sheet;
     let totals = sheet.totals;
-    show_label(b"sheet");
-    show_natural(earlier as u64);
-    show_natural(answer.number() as u64);
-    show_totals(totals_of_end(answer));
-    show_natural(sheet.count as u64);
-    show_totals(totals);
-    end_row();
+    show_label(rt, b"sheet");
+    show_natural(rt, earlier as u64);
+    show_natural(rt, answer.number() as u64);
+    show_totals(rt, totals_of_end(answer));
+    show_natural(rt, sheet.count as u64);
+    show_totals(rt, totals);
+    end_row(rt);
 }
 
 // One run. Asked: first column, length. Answered: number, index, six totals.
-fn run_row(first: u32, length: u32) {
+fn run_row(rt: &impl Print, first: u32, length: u32) {
     let answer = plots::run_totals(first, length);
-    show_label(b"run");
-    show_natural(first as u64);
-    show_natural(length as u64);
-    run_rows::show_region(answer);
+    show_label(rt, b"run");
+    show_natural(rt, first as u64);
+    show_natural(rt, length as u64);
+    run_rows::show_region(rt, answer);
 }
 
 // An open walk handed in. Asked: points, A2. Answered: number, six totals of its end, the sheet's count.
-fn walk_row(count: u32, a2: i64) {
+fn walk_row(rt: &impl Print, count: u32, a2: i64) {
     let reply = plots::handed_in(count, a2);
     let answer = reply.answer;
     let sheet = reply.sheet;
-    show_label(b"walk");
-    show_natural(count as u64);
-    show_integer(a2);
-    show_natural(answer.number() as u64);
-    show_totals(totals_of_end(answer));
-    show_natural(sheet.count as u64);
-    end_row();
+    show_label(rt, b"walk");
+    show_natural(rt, count as u64);
+    show_integer(rt, a2);
+    show_natural(rt, answer.number() as u64);
+    show_totals(rt, totals_of_end(answer));
+    show_natural(rt, sheet.count as u64);
+    end_row(rt);
 }
 
-fn main() {
-    limit_row(2000);
-    limit_row(2001);
-    point_row(Position { x: 0, y: 0 });
-    point_row(Position { x: 2001, y: 0 });
-    double_row(244);
-    double_row(245);
-    sheet_row(14);
-    sheet_row(15);
-    run_row(1023, 1);
-    run_row(1023, 2);
-    walk_row(3, 24_000_000);
-    walk_row(3, 24_000_001);
-    ring_rows::ring_rows();
-    mask_rows::mask_rows();
-    compare_rows::compare_rows();
-    annex_rows::annex_rows();
+fn main(rt: HostRuntime) {
+    limit_row(&rt, 2000);
+    limit_row(&rt, 2001);
+    point_row(&rt, Position { x: 0, y: 0 });
+    point_row(&rt, Position { x: 2001, y: 0 });
+    double_row(&rt, 244);
+    double_row(&rt, 245);
+    sheet_row(&rt, 14);
+    sheet_row(&rt, 15);
+    run_row(&rt, 1023, 1);
+    run_row(&rt, 1023, 2);
+    walk_row(&rt, 3, 24_000_000);
+    walk_row(&rt, 3, 24_000_001);
+    ring_rows::ring_rows(&rt);
+    mask_rows::mask_rows(&rt);
+    compare_rows::compare_rows(&rt);
+    annex_rows::annex_rows(&rt);
     // Runs whose sums of x² are taken at the ends of the annex.
-    run_row(0, 1);
-    run_row(0, 1024);
-    move_rows::move_rows();
-    run_rows::run_rows();
-    third_rows::third_rows();
+    run_row(&rt, 0, 1);
+    run_row(&rt, 0, 1024);
+    move_rows::move_rows(&rt);
+    run_rows::run_rows(&rt);
+    third_rows::third_rows(&rt);
 }

@@ -58,88 +58,88 @@ fn one_run_more() -> [u64; 144]
 }
 
 // The records from `from` up to `end`.
-fn show_records(runs: [Run; 4097], from: usize, end: usize)
+fn show_records(rt: &impl Print, runs: [Run; 4097], from: usize, end: usize)
     requires { end ≤ 4097 }
 {
     let mut i = from;
     while i < end {
-        show_run(runs[i]);
+        show_run(rt, runs[i]);
         i += 1;
     }
 }
 
 // Asked: words. Answered: number, six totals.
-fn totals_row(words: &[u64]) {
+fn totals_row(rt: &impl Print, words: &[u64]) {
     let answer = mask_totals(words);
-    show_label(b"mask-totals");
-    show_natural(words.len() as u64);
-    show_natural(answer.number() as u64);
-    show_totals(answer.totals());
-    end_row();
+    show_label(rt, b"mask-totals");
+    show_natural(rt, words.len() as u64);
+    show_natural(rt, answer.number() as u64);
+    show_totals(rt, answer.totals());
+    end_row(rt);
 }
 
 // The writer and a list of `records`. Asked: words, records. Answered: number, how many were written, the records from `shown` on.
-fn written_row(label: &[u8], words: &[u64], records: usize, shown: usize)
+fn written_row(rt: &impl Print, label: &[u8], words: &[u64], records: usize, shown: usize)
     requires { records ≤ 4097 }
 {
     let reply = mask_runs_of(words, [RECORD_BEFORE; 4097], records);
     let answer = reply.answer;
     let runs = reply.runs;
-    show_label(label);
-    show_natural(words.len() as u64);
-    show_natural(records as u64);
-    show_natural(answer.number() as u64);
-    show_natural(answer.count() as u64);
-    show_records(runs, shown, records);
-    end_row();
+    show_label(rt, label);
+    show_natural(rt, words.len() as u64);
+    show_natural(rt, records as u64);
+    show_natural(rt, answer.number() as u64);
+    show_natural(rt, answer.count() as u64);
+    show_records(rt, runs, shown, records);
+    end_row(rt);
 }
 
 // All records of a short list.
-fn runs_row(words: &[u64], records: usize)
+fn runs_row(rt: &impl Print, words: &[u64], records: usize)
     requires { records ≤ 4097 }
 {
-    written_row(b"mask-runs", words, records, 0);
+    written_row(rt, b"mask-runs", words, records, 0);
 }
 
 // The last two records of a long list.
-fn last_row(words: &[u64], records: usize)
+fn last_row(rt: &impl Print, words: &[u64], records: usize)
     requires le_records { 2 ≤ records }
     requires records_bound { records ≤ 4097 }
 {
-    written_row(b"mask-last", words, records, records - 2);
+    written_row(rt, b"mask-last", words, records, records - 2);
 }
 
-fn all_totals_rows() {
+fn all_totals_rows(rt: &impl Print) {
     let four = four_runs();
     let more = one_run_more();
     let full = [ALL_ONES; 16400];
-    totals_row(&four);
-    totals_row(&more[..128]);
-    totals_row(&more);
-    totals_row(&full[..0]);
-    totals_row(&full[..16384]);
-    totals_row(&full[..15]);
-    totals_row(&full[..17]);
-    totals_row(&full);
+    totals_row(rt, &four);
+    totals_row(rt, &more[..128]);
+    totals_row(rt, &more);
+    totals_row(rt, &full[..0]);
+    totals_row(rt, &full[..16384]);
+    totals_row(rt, &full[..15]);
+    totals_row(rt, &full[..17]);
+    totals_row(rt, &full);
 }
 
-fn all_runs_rows() {
+fn all_runs_rows(rt: &impl Print) {
     let four = four_runs();
     let more = one_run_more();
     let full = [ALL_ONES; 16400];
-    runs_row(&four, 3);
-    runs_row(&four, 4);
-    runs_row(&four, 5);
-    runs_row(&full[..0], 0);
-    runs_row(&full[..15], 1);
-    runs_row(&full[..17], 0);
-    last_row(&more[..128], 4097);
-    last_row(&more, 4097);
-    last_row(&full[..16384], 1025);
-    last_row(&full, 1025);
+    runs_row(rt, &four, 3);
+    runs_row(rt, &four, 4);
+    runs_row(rt, &four, 5);
+    runs_row(rt, &full[..0], 0);
+    runs_row(rt, &full[..15], 1);
+    runs_row(rt, &full[..17], 0);
+    last_row(rt, &more[..128], 4097);
+    last_row(rt, &more, 4097);
+    last_row(rt, &full[..16384], 1025);
+    last_row(rt, &full, 1025);
 }
 
-pub(crate) fn mask_rows() {
-    all_totals_rows();
-    all_runs_rows();
+pub(crate) fn mask_rows(rt: &impl Print) {
+    all_totals_rows(rt);
+    all_runs_rows(rt);
 }

@@ -43,49 +43,51 @@ fn end_on(walk: Walk, a2: i64) -> EndReply
     outline_calls::end(walk, Sheet { count: 1, totals })
 }
 
-fn show_position(p: Position) {
-    show_coordinate(p.x);
-    show_coordinate(p.y);
+fn show_position(rt: &impl Print, p: Position) {
+    show_coordinate(rt, p.x);
+    show_coordinate(rt, p.y);
 }
 
 // Asked: kind, three points, the sheet's A2. Answered: number and totals of the end, how many points the walk then has, the sheet.
-fn ring_row(kind: Kind, one: Position, two: Position, three: Position, a2: i64) {
+fn ring_row(rt: &impl Print, kind: Kind, one: Position, two: Position, three: Position, a2: i64) {
     let reply = end_on(walk_triangle(kind, one, two, three), a2);
     let answer = reply.answer;
     let walk = reply.walk;
     let sheet = reply.sheet;
     let totals = sheet.totals;
-    show_label(b"ring");
-    show_kind(kind);
-    show_position(one);
-    show_position(two);
-    show_position(three);
-    show_integer(a2);
-    show_natural(answer.number() as u64);
-    show_totals(totals_of_end(answer));
-    show_natural(walk.count as u64);
-    show_natural(sheet.count as u64);
-    show_totals(totals);
-    end_row();
+    show_label(rt, b"ring");
+    show_kind(rt, kind);
+    show_position(rt, one);
+    show_position(rt, two);
+    show_position(rt, three);
+    show_integer(rt, a2);
+    show_natural(rt, answer.number() as u64);
+    show_totals(rt, totals_of_end(answer));
+    show_natural(rt, walk.count as u64);
+    show_natural(rt, sheet.count as u64);
+    show_totals(rt, totals);
+    end_row(rt);
 }
 
 // A triangle as it is listed and walked the other way, as an island and as a hole.
-fn four_rows(one: Position, two: Position, three: Position, a2: i64) {
-    ring_row(Kind::Island, one, two, three, a2);
-    ring_row(Kind::Island, three, two, one, a2);
-    ring_row(Kind::Hole, one, two, three, a2);
-    ring_row(Kind::Hole, three, two, one, a2);
+fn four_rows(rt: &impl Print, one: Position, two: Position, three: Position, a2: i64) {
+    ring_row(rt, Kind::Island, one, two, three, a2);
+    ring_row(rt, Kind::Island, three, two, one, a2);
+    ring_row(rt, Kind::Hole, one, two, three, a2);
+    ring_row(rt, Kind::Hole, three, two, one, a2);
 }
 
 // The pond of document 02; three points on a line; and a triangle whose A2 is 2, on sheets with room for 1 more and for 1 less.
-pub(crate) fn ring_rows() {
+pub(crate) fn ring_rows(rt: &impl Print) {
     four_rows(
+        rt,
         Position { x: 4, y: 2 },
         Position { x: 6, y: 3 },
         Position { x: 5, y: 5 },
         80,
     );
     four_rows(
+        rt,
         Position { x: 0, y: 0 },
         Position { x: 6, y: 3 },
         Position { x: 2, y: 1 },
@@ -94,6 +96,6 @@ pub(crate) fn ring_rows() {
     let corner = Position { x: 0, y: 0 };
     let east = Position { x: 1, y: 0 };
     let north = Position { x: 0, y: 2 };
-    four_rows(corner, east, north, 999_999_999_999_999_999);
-    four_rows(corner, east, north, -999_999_999_999_999_999);
+    four_rows(rt, corner, east, north, 999_999_999_999_999_999);
+    four_rows(rt, corner, east, north, -999_999_999_999_999_999);
 }

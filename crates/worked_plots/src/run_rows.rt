@@ -27,31 +27,31 @@ fn region_of_array(run: Run) -> RegionAnswer
 }
 
 // What the call on runs answers, to the end of a row: number, index, six totals.
-pub(crate) fn show_region(answer: RegionAnswer) {
-    show_natural(answer.number() as u64);
-    show_natural(index_of_region(answer) as u64);
-    show_totals(totals_of_region(answer));
-    end_row();
+pub(crate) fn show_region(rt: &impl Print, answer: RegionAnswer) {
+    show_natural(rt, answer.number() as u64);
+    show_natural(rt, index_of_region(answer) as u64);
+    show_totals(rt, totals_of_region(answer));
+    end_row(rt);
 }
 
 // Asked: the five runs. Answered: number, index, six totals.
-fn runs_row(a: Run, b: Run, c: Run, d: Run, e: Run) {
+fn runs_row(rt: &impl Print, a: Run, b: Run, c: Run, d: Run, e: Run) {
     let answer = region_of_five(a, b, c, d, e);
-    show_label(b"runs");
-    show_run(a);
-    show_run(b);
-    show_run(c);
-    show_run(d);
-    show_run(e);
-    show_region(answer);
+    show_label(rt, b"runs");
+    show_run(rt, a);
+    show_run(rt, b);
+    show_run(rt, c);
+    show_run(rt, d);
+    show_run(rt, e);
+    show_region(rt, answer);
 }
 
 // Asked: a run, which is listed 4,097 times. Answered: number, index, six totals.
-fn array_row(run: Run) {
+fn array_row(rt: &impl Print, run: Run) {
     let answer = region_of_array(run);
-    show_label(b"runs-4097");
-    show_run(run);
-    show_region(answer);
+    show_label(rt, b"runs-4097");
+    show_run(rt, run);
+    show_region(rt, answer);
 }
 
 fn run_of(row: u32, first: u32, length: u32) -> Run
@@ -61,16 +61,24 @@ fn run_of(row: u32, first: u32, length: u32) -> Run
 }
 
 // At first runs 1 and 2 break 7, and runs 3 and 4 break 6 (run 4 breaks 7 too).
-pub(crate) fn run_rows() {
+pub(crate) fn run_rows(rt: &impl Print) {
     let sound = run_of(5, 0, 3);
     let overlapping = run_of(5, 2, 1);
     let lower = run_of(4, 0, 1);
     let outside = run_of(1024, 0, 1);
     let empty = run_of(6, 0, 0);
-    runs_row(sound, overlapping, lower, outside, empty);
-    runs_row(sound, overlapping, lower, run_of(7, 4, 1), empty);
-    runs_row(sound, overlapping, lower, run_of(7, 4, 1), run_of(8, 0, 2));
+    runs_row(rt, sound, overlapping, lower, outside, empty);
+    runs_row(rt, sound, overlapping, lower, run_of(7, 4, 1), empty);
     runs_row(
+        rt,
+        sound,
+        overlapping,
+        lower,
+        run_of(7, 4, 1),
+        run_of(8, 0, 2),
+    );
+    runs_row(
+        rt,
         sound,
         run_of(5, 3, 1),
         lower,
@@ -78,11 +86,12 @@ pub(crate) fn run_rows() {
         run_of(8, 0, 2),
     );
     runs_row(
+        rt,
         sound,
         run_of(5, 3, 1),
         run_of(6, 0, 1),
         run_of(7, 4, 1),
         run_of(8, 0, 2),
     );
-    array_row(empty);
+    array_row(rt, empty);
 }
