@@ -1,3 +1,1 @@
-mod ArrayParts
-mod ReplyValues
 mod WorkedArrays

@@ -3,7 +3,7 @@ use Prim.Native.Nat.{ℕ, ◌+◌}
 use mathlib.Core.Path.{◌≡◌, refl}
 use mathlib.Core.List.{List, [], ◌∷◌, ◌++◌}
 use lib.IntN.{pos}
-use lib.ListN.{length, replicate}
+use lib.ListN.{replicate}
 use Rattle.integers.specs.Search.{first_where}
 use Rattle.cell_ground.specs.CellSums.{sums_over}
 use Rattle.cell_ground.specs.Ground.{ground_of}

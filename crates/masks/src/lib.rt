@@ -152,7 +152,7 @@ fn decide(words: &[u64], held: usize) -> Decision
     }
 }
 
-// The longest runs of the marked cells, written to the front of the caller's list. Thin: what is decided and which run comes next is told by covered functions.
+// The longest runs of the marked cells, written to the front of the caller's list. Thin: what is decided and which run comes next is told by functions of their own.
 pub fn mask_runs(words: &[u64], runs: &mut [Run]) -> MaskRunsAnswer
     ensures { runs_reading result runs.new ≡ mask_runs_call words.now runs.old }
 {
