@@ -1,4 +1,3 @@
-mod Arguments
 mod Turns
 mod SoFar
 mod StepLaws

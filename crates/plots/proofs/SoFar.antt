@@ -8,12 +8,17 @@ use lib.Dec.{eqb}
 use lib.IntN.{ℤ, pos}
 use lib.ListN.{length, take, drop, length-drop}
 use lib.Seq.{drop-drop, take-add, drop_at, length-take-le}
+use borrow.Author.Tests.{eqb-true}
 use borrow.Rule.Slice.PartMut.{mid_len}
+use Rattle.std.specs.Prelude.{Option, None, Some, IfSome}
+use Rattle.std.specs.Io.KnownBytes.{Appends, Consumes, IsAtEnd}
+use Rattle.std.proofs.KnownBytes.{Appends-nil, Appends-trans, Consumes-nil, Consumes-trans}
 use Rattle.outline.specs.declared.Sheet.{Sheet}
 use Rattle.outline.specs.WalkCalls.{new_sheet}
 use Rattle.decimals.specs.Buffer.{overwritten}
 use Rattle.decimals.proofs.BufferLaws.{in_front}
 use Rattle.text_program.specs.declared.State.{State}
+use Rattle.text_program.specs.Program.{program}
 use Rattle.text_program.specs.Stream.{start, feed_call}
 use Rattle.text_program.specs.Chunks.{Place, Run, here, reads, feeds}
 use Rattle.text_program.proofs.Chunks.{chunks}
@@ -41,17 +46,28 @@ steps-run (called {last} {st} {s} {buffer} {input} {out} room r descriptor text 
 steps-run (received {st} {s} {buffer} {input} {out} piece failed f before) rest end =
     subst (Run (place st s (buffer ++ piece) rest) start new_sheet [] ((input ++ piece) ++ rest)) (append-nil out) (rw (append_assoc input piece rest) (then (steps-run before (piece ++ rest) (λ e. absurd (true≢false (sym e)))) (reads piece here)))
 
--- Some steps have led here.
-pub record SoFar (last : Bool) (st : State) (s : Sheet) (buffer : List ℕ) : Type 0 where
+-- Some steps have led here. What the input had before them, and has now, is what they read; what the output had, and has, is what they wrote: where that is known.
+pub record SoFar (unread₀ held₀ unread held : Option (List ℕ)) (last : Bool) (st : State) (s : Sheet) (buffer : List ℕ) : Type 0 where
   pub input : List ℕ
   pub out : List ℕ
   pub steps : LoopSteps last st s buffer input out
+  pub taken : Consumes unread₀ unread input
+  pub put : Appends held₀ held out
+  pub end : last ≡ true → IsAtEnd unread
 
-pub at-start : SoFar false start new_sheet []
-at-start = record { input = []; out = []; steps = none }
+pub at-start : (unread held : Option (List ℕ)) → SoFar unread held unread held false start new_sheet []
+at-start unread held = record { input = []; out = []; steps = none; taken = Consumes-nil unread; put = Appends-nil held; end = λ e. absurd (true≢false (sym e)) }
 
 pub all_written : AllWritten
 all_written last st s buffer input out steps w rest end = chunks (place st s buffer rest) (input ++ rest) out (steps-run steps rest end) w
+
+-- Where the S line is written, and it is known what the input had: what was written is the program's output for it.
+pub finished : (unread₀ held₀ unread held : Option (List ℕ)) {last : Bool} {st : State} {s : Sheet} {buffer : List ℕ} → SoFar unread₀ held₀ unread held last st s buffer → st.written ≡ true → IfSome unread₀ (λ bytes. Appends held₀ held (program bytes))
+finished None held₀ unread held k w = tt
+finished (Some bytes) held₀ None held k w = absurd k.taken
+finished (Some bytes) held₀ (Some rest) held {last} {st} {s} {buffer} k w =
+    let all : k.out ≡ program (k.input ++ rest) = all_written last st s buffer k.input k.out k.steps w rest k.end in
+    subst (λ b. Appends held₀ held (program b)) (sym k.taken) (subst (Appends held₀ held) all k.put)
 
 -- ---- the steps as the loop makes them, with the buffers' places `at` and `have`
 
@@ -66,25 +82,25 @@ left buf at have used h l =
     ∙ ap (take n) (drop-drop used at buf)
 
 -- A call on the bytes from `at` up to `have`, and a write of what it put at the front of `after`, the output's buffer.
-pub after_write : (last : Bool) (st : State) (s : Sheet) (buf : List ℕ) (at have : ℕ) (before after : List ℕ) (r : Fed) (descriptor : ℤ) (text : List ℕ) (whole : Bool) → (let chunk = take (have - at) (drop at buf) in Feeds (feed_call last st s chunk (length before)) before after r → at + r.used ≤ have → have ≤ length buf → descriptor ≡ pos 1 → text ≡ take r.filled after → whole ≡ true → SoFar last st s chunk → SoFar last r.state r.sheet (take (have - (at + r.used)) (drop (at + r.used) buf)))
-after_write last st s buf at have before after r descriptor text whole f h l d t w k =
+pub after_write : (unread₀ held₀ unread held held' : Option (List ℕ)) (last : Bool) (st : State) (s : Sheet) (buf : List ℕ) (at have : ℕ) (before after : List ℕ) (r : Fed) (descriptor : ℤ) (text : List ℕ) (whole : Bool) → (let chunk = take (have - at) (drop at buf) in Feeds (feed_call last st s chunk (length before)) before after r → at + r.used ≤ have → have ≤ length buf → descriptor ≡ pos 1 → text ≡ take r.filled after → whole ≡ true → Appends held held' text → SoFar unread₀ held₀ unread held last st s chunk → SoFar unread₀ held₀ unread held' last r.state r.sheet (take (have - (at + r.used)) (drop (at + r.used) buf)))
+after_write unread₀ held₀ unread held held' last st s buf at have before after r descriptor text whole f h l d t w a k =
     let call = feed_call last st s (take (have - at) (drop at buf)) (length before) in
     let size : r.filled ≡ length call.output = ap (λ (r : Fed). r.filled) f.answer in
     let written : text ≡ call.output = t ∙ in_front {n = r.filled} (record { buffer = f.buffer; end = omega (arith, size) }) in
     let used : r.used ≡ call.used = ap (λ (r : Fed). r.used) f.answer in
-    subst (λ (r : Fed). SoFar last r.state r.sheet (take (have - (at + r.used)) (drop (at + r.used) buf))) (sym f.answer)
-    (subst (SoFar last call.state call.sheet) (left buf at have call.used (omega arith) l)
-    (record { input = k.input; out = k.out ++ text; steps = called (length before) call descriptor text whole refl d written w k.steps }))
+    subst (λ (r : Fed). SoFar unread₀ held₀ unread held' last r.state r.sheet (take (have - (at + r.used)) (drop (at + r.used) buf))) (sym f.answer)
+    (subst (SoFar unread₀ held₀ unread held' last call.state call.sheet) (left buf at have call.used (omega arith) l)
+    (record { input = k.input; out = k.out ++ text; steps = called (length before) call descriptor text whole refl d written w k.steps; taken = k.taken; put = Appends-trans held₀ held held' k.out text k.put a; end = k.end }))
 
 -- The bytes from `from` up to `to` are moved to the front, and a read adds to them.
-pub after_read : (st : State) (s : Sheet) (buf moved after : List ℕ) (from to n : ℕ) (r : Received) → (let bytes = take (to - from) (drop from buf) in to ≤ length buf → n ≡ to - from → moved ≡ overwritten buf 0 bytes → take n after ≡ take n moved → n + r.size ≤ length after → r.failed ≡ false → SoFar false st s bytes → SoFar (eqb r.size 0) st s (take (n + r.size - 0) (drop 0 after)))
-after_read st s buf moved after from to n r l e m t h f k =
+pub after_read : (unread₀ held₀ unread unread' held : Option (List ℕ)) (st : State) (s : Sheet) (buf moved after : List ℕ) (from to n : ℕ) (r : Received) → (let bytes = take (to - from) (drop from buf) in to ≤ length buf → n ≡ to - from → moved ≡ overwritten buf 0 bytes → take n after ≡ take n moved → n + r.size ≤ length after → r.failed ≡ false → Consumes unread unread' (take r.size (drop n after)) → (r.size ≡ 0 → IsAtEnd unread') → SoFar unread₀ held₀ unread held false st s bytes → SoFar unread₀ held₀ unread' held (eqb r.size 0) st s (take (n + r.size - 0) (drop 0 after)))
+after_read unread₀ held₀ unread unread' held st s buf moved after from to n r l e m t h f c z k =
     let bytes = take (to - from) (drop from buf) in
     let piece = take r.size (drop n after) in
     let front : take n after ≡ bytes = t ∙ in_front {n = n} (record { buffer = m; end = omega (arith, mid_len from to buf l, e) }) in
     let sum : n + r.size - 0 ≡ n + r.size = omega arith in
     let all : bytes ++ piece ≡ take (n + r.size - 0) after = ap (λ b. b ++ piece) (sym front) ∙ sym (take-add n r.size after) ∙ ap (λ i. take i after) (sym sum) in
     let size : length piece ≡ r.size = length-take-le r.size (drop n after) (omega (arith, length-drop n after)) in
-    subst (λ i. SoFar (eqb i 0) st s (take (n + r.size - 0) after)) size
-    (subst (SoFar (eqb (length piece) 0) st s) all
-    (record { input = k.input ++ piece; out = k.out; steps = received piece r.failed f k.steps }))
+    subst (λ i. SoFar unread₀ held₀ unread' held (eqb i 0) st s (take (n + r.size - 0) after)) size
+    (subst (SoFar unread₀ held₀ unread' held (eqb (length piece) 0) st s) all
+    (record { input = k.input ++ piece; out = k.out; steps = received piece r.failed f k.steps; taken = Consumes-trans unread₀ unread unread' k.input piece k.taken c; put = k.put; end = λ e. z (sym size ∙ eqb-true (length piece) 0 e) }))

@@ -1,15 +1,13 @@
--- `plots::shift` meets its contract: what has been moved stands at the front, and the loop reads only bytes that it has not written over.
 use Prim.Native.Nat.{ℕ, ◌+◌, ◌-◌, ◌≤◌, ◌<◌}
 use mathlib.Core.Path.{◌≡◌, refl, sym, ap, ◌∙◌}
 use mathlib.Core.List.{List, ◌++◌}
 use native.Mathlib.Omega.{arith}
 use native.Mathlib.Numerals.{add-one}
+use borrow.Author.Rules.{rules}
 use lib.ListN.{length, take, drop, get_or, set, length-drop}
 use lib.Seq.{paste, paste-zero, paste-suc, drop-paste, get_or-drop, length-take-le}
-use borrow.Author.Rules.{rules}
 use Rattle.decimals.specs.Buffer.{overwritten}
-use Rattle.plots.proofs.shift.Statement.{statement}
-use Rattle.plots.proofs.shift.Tie as tie
+use Rattle.plots.proofs.shift.Goals as goal
 
 module _ (before : List ℕ) (from i : ℕ) (h : from + i < length before) where
   abbrev moved : List ℕ
@@ -43,40 +41,14 @@ all_moved before from to i h k l m =
     let e : i ≡ to - from = omega arith in
     ap (paste before 0 (drop from before)) e ∙ ap (λ n. take 0 before ++ take (to - from) (drop from before) ++ drop (0 + n) before) (sym (length-take-le (to - from) (drop from before) (omega (arith, length-drop from before))))
 
-abbrev invariant-loop : tie.invariant-loop
-invariant-loop buf₀ from to n i₀ buf i = (i ≤ n) × (length buf ≡ length buf₀) × (buf ≡ paste buf₀ 0 (drop from buf₀) i)
+pub loop-i-init : goal.loop-i-init
+loop-i-init c = (omega arith, refl, paste-zero c.args.buf.now 0 (drop c.args.from c.args.buf.now))
 
-abbrev decreases-loop : tie.decreases-loop
-decreases-loop buf₀ from to n i₀ buf i = n - i
+pub loop-i-preserved : goal.loop-i-preserved
+loop-i-preserved c = (omega arith, search rules, rw c.loop-i.invariant.2 (one_more c.args.buf.now c.args.from c.loop-i.i (omega arith)))
 
-loop-holds : tie.Need-loop-init invariant-loop decreases-loop
-loop-holds c = (omega arith, refl, paste-zero c.args.buf.now 0 (drop c.args.from c.args.buf.now))
-
-loop-again : tie.Need-loop-preserved invariant-loop decreases-loop
-loop-again c =
-    let l = c.before.before.loop in
-    let a = c.before.before.before.args in
-    (omega arith, search rules, rw l.invariant.2 (one_more a.buf.now a.from l.i (omega arith)))
-
-returns : tie.Need-returns invariant-loop decreases-loop
-returns c =
-    let l = c.before.loop in
-    let a = c.before.before.args in
-    (refl, l.invariant.2 ∙ all_moved a.buf.now a.from a.to l.i (omega arith) (omega arith) (omega arith) (omega arith))
-
-pub shift_spec : {M : Type 1} → statement M
-shift_spec =
-    tie.close
-    (tie.spec
-    invariant-loop
-    decreases-loop
-    (λ c. search rules)
-    loop-holds
-    (λ c. search rules)
-    (λ c. search rules)
-    (λ c. search rules)
-    (λ c. search rules)
-    (λ c. search rules)
-    loop-again
-    (λ c. search rules)
-    returns)
+pub returns : goal.returns
+returns c = record {
+  value = refl;
+  buf_after = c.loop-i.invariant.2 ∙ all_moved c.args.buf.now c.args.from c.args.to c.loop-i.i (omega arith) (omega arith) (omega arith) (omega arith);
+}
