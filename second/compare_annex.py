@@ -50,7 +50,7 @@ def summed_entries():
 
 def crates_below(listed, name):
     """The crates that a crate rests on, and those under them, by the text of crates.txt."""
-    rests_on = {crate.strip(): others.split() for crate, _, others in (line.partition(":") for line in listed.splitlines())}
+    rests_on = {head.split()[0]: others.split() for head, _, others in (line.partition(":") for line in listed.splitlines()) if head.strip()}
     if name not in rests_on:
         raise ValueError(f"there is no crate {name}")
     found, left = set(), [name]
