@@ -7,9 +7,9 @@ python3 bench/run.py [--walks] [--runs] [--masks]
 
 The second prints the tables of the calls on two walks, on runs or on masks, taken from C, alone.
 
-Builds what it needs and makes the inputs, all under target/. On each input the three programs must
-first write the same bytes; then they are timed in turns. Exits 1 on a difference, and where
-`plots` takes 4 MB of memory or more.
+Builds what it needs and makes the inputs: what rt builds lies in out/ of its crate, all else under
+target/. On each input the three programs must first write the same bytes; then they are timed in
+turns. Exits 1 on a difference, and where `plots` takes 4 MB of memory or more.
 """
 import argparse
 import os
@@ -25,7 +25,9 @@ ROOT = Path(__file__).resolve().parent.parent
 BENCH = ROOT / "bench"
 BUILT = ROOT / "target" / "bench"
 CALLERS = ROOT / "callers" / "rust"
-LIBRARY = ROOT / "target" / "staticlib" / "libexports.a"
+PLOTS = ROOT / "crates" / "plots"
+EXPORTS = ROOT / "crates" / "exports"
+LIBRARY = EXPORTS / "out" / "libexports.a"
 MOST_KILOBYTES = 4_000
 TABLE_BEGINS = "<!-- bench/run.py writes from here -->\n"
 TABLE_ENDS = "<!-- to here -->\n"
@@ -39,7 +41,7 @@ BESIDE = ("C", "Rust", "C without 28")
 
 def run(*command, folder=ROOT):
     """What the command writes on standard output; the whole run ends if it fails."""
-    done = subprocess.run(command, cwd=folder, capture_output=True, text=True)
+    done = subprocess.run(command, cwd=folder, stdin=subprocess.DEVNULL, capture_output=True, text=True)
     if done.returncode != 0:
         sys.exit(f"{done.stdout}{done.stderr}failed: {' '.join(map(str, command))}")
     return done.stdout
@@ -49,8 +51,8 @@ def build(plots):
     """The programs by name; `plots` is proved and built if that has not been done for this source."""
     BUILT.mkdir(parents=True, exist_ok=True)
     if plots is None:
-        run("rt", "check", "plots")
-        plots = ROOT / "target" / "bin" / "plots"
+        run("rt", "run", folder=PLOTS)
+        plots = PLOTS / "out" / "plots"
     run("gcc", "-O3", "-o", BUILT / "plots_c", BENCH / "plots.c")
     run("gcc", "-O3", "-DTEST_28=0", "-o", BUILT / "plots_c_without_28", BENCH / "plots.c")
     run("rustc", "--edition", "2021", "-O", "-o", BUILT / "plots_rust", BENCH / "plots.rs")
@@ -175,7 +177,7 @@ def report(programs, paths, rounds):
     text = f"{machine()}\nThe least of {rounds} rounds.\n\n{program_table(programs, paths, rounds)}"
     text += f"\nPeak memory of `plots`: {most:,} kB at most, {peaks['long']:,} kB on {UNTIMED['long'][1]}.\n"
     if CALLERS.exists():
-        run("rt", "staticlib", "exports")
+        run("rt", "lib", folder=EXPORTS)
         text += f"\nCalls of the library from Rust:\n\n{library_tables()}"
         text += f"\nThe call of the library on two walks, from C:\n\n{walk_tables()}"
         text += f"\nThe call of the library on runs, from C:\n\n{region_tables()}"
@@ -197,18 +199,18 @@ def main():
     parser = argparse.ArgumentParser(description="Speed of plots as ratios.")
     parser.add_argument("--rounds", type=int, default=40)
     parser.add_argument("--write", metavar="FILE", help="put the table into this page")
-    parser.add_argument("--plots", metavar="PROGRAM", help="measure this program instead of target/bin/plots")
+    parser.add_argument("--plots", metavar="PROGRAM", help="measure this program instead of crates/plots/out/plots")
     parser.add_argument("--walks", action="append_const", dest="alone", const=walk_tables, help="the call on two walks alone")
     parser.add_argument("--runs", action="append_const", dest="alone", const=region_tables, help="the call on runs alone")
     parser.add_argument("--masks", action="append_const", dest="alone", const=mask_tables, help="the calls on masks alone")
     chosen = parser.parse_args()
     if chosen.alone:
         BUILT.mkdir(parents=True, exist_ok=True)
-        run("rt", "staticlib", "exports")
+        run("rt", "lib", folder=EXPORTS)
         print("\n".join(tables() for tables in chosen.alone), end="")
         return
     if chosen.write and chosen.plots:
-        sys.exit("only figures of target/bin/plots, which is proved, are written down")
+        sys.exit("only figures of crates/plots/out/plots, which is proved, are written down")
     programs = build(chosen.plots and Path(chosen.plots).resolve())
     paths = make_inputs(BUILT)
     compare(programs, paths)

@@ -153,7 +153,7 @@ def check_pictures():
 
 def main():
     parser = argparse.ArgumentParser(description="Recomputes what the pages say.")
-    parser.add_argument("--plots", type=Path, default=ROOT / "target" / "bin" / "plots", help="the program to run")
+    parser.add_argument("--plots", type=Path, default=ROOT / "crates" / "plots" / "out" / "plots", help="the program to run")
     plots = parser.parse_args().plots.resolve()
     for name in ("NUMBERS.md", "CROSSINGS.md", "CASES.md", "CASES-CELLS.md", "TWO-WALKS.md", "RECEIVER.md", "THIRD-MOMENTS.md"):
         Page(DOCS / name, plots).check()

@@ -3,8 +3,8 @@
 python3 second/compare_annex.py PROGRAM
 
 PROGRAM is the crate square_annex, built.  It is to print each entry and a newline, and
-nothing else.  The file of the constant is to have this one array and comments, and each
-entry on its line.  Entries are compared as they are written.  By crates.txt the program must
+nothing else.  The file of the constant is to have this one array and comments, in lines of
+entries with a comma after each.  Entries are compared as they are written.  By crates.txt the program must
 not rest on the crate of the constant, or the two would be one.  Exits 1 with the first difference.
 """
 import argparse
@@ -37,8 +37,8 @@ def table_entries(source):
     """Those of the constant in this text."""
     found = ONE_ARRAY.fullmatch(source)
     if not found:
-        raise ValueError("the source is not the one array SQUARE_SUMS: [u32; 1025], an entry a line")
-    return re.findall(r"    (.*),\n", found[1])
+        raise ValueError("the source is not the one array SQUARE_SUMS: [u32; 1025], a comma after each entry")
+    return [entry for line in re.findall(r"    (.*),\n", found[1]) for entry in line.split(", ")]
 
 
 def summed_entries():
@@ -50,7 +50,7 @@ def summed_entries():
 
 def crates_below(listed, name):
     """The crates that a crate rests on, and those under them, by the text of crates.txt."""
-    rests_on = {crate.strip(): others.split() for crate, _, others in (line.partition(":") for line in listed.splitlines())}
+    rests_on = {head.split()[0]: others.split() for head, _, others in (line.partition(":") for line in listed.splitlines()) if head.strip()}
     if name not in rests_on:
         raise ValueError(f"there is no crate {name}")
     found, left = set(), [name]

@@ -61,9 +61,9 @@ def as_printed(entries):
     return "".join(f"{entry}\n" for entry in entries).encode()
 
 
-def as_source(entries):
-    """A source file with these entries."""
-    lines = "".join(f"    {entry},\n" for entry in entries)
+def as_source(entries, row=1):
+    """A source file with these entries, so many a line."""
+    lines = "".join(f"    {', '.join(entries[k:k + row])},\n" for k in range(0, len(entries), row))
     return f"// A comment.\npub(crate) const SQUARE_SUMS: [u32; 1025] = [\n{lines}];\n"
 
 
@@ -72,9 +72,11 @@ def with_entry(k, entry):
     return [*WRITTEN[:k], entry, *WRITTEN[k + 1:]]
 
 
+# How many entries a line of the source has.
+ROWS = (1, 12)
 # Wrong tables, each with the entry where that shows.
 WRONG_TABLES = ((with_entry(512, "44608257"), 512), (with_entry(2, "01"), 2), (with_entry(700, " 114088450"), 700),
-                (with_entry(700, "114_088_450"), 700), (with_entry(3, "5, 14"), 3), (with_entry(1_024, ""), 1_024),
+                (with_entry(700, "114_088_450"), 700), (with_entry(3, "5,14"), 3), (with_entry(1_024, ""), 1_024),
                 (with_entry(2, "1\r"), 2), (with_entry(2, "1²"), 2),
                 (WRITTEN[:-1], 1_024), ([*WRITTEN, "358438400"], 1_025), (WRITTEN[1:], 1),
                 (["0", *WRITTEN[:-1]], 2), ([], 0))
@@ -92,11 +94,15 @@ def refused(reading, given):
 def check_comparison():
     """A right page and a right source are read and have no difference; a wrong one of either is seen, or not read."""
     page, source = as_printed(WRITTEN), as_source(WRITTEN)
-    check("no difference", first_difference(printed_entries(page), table_entries(source), WRITTEN), "")
+    for row in ROWS:
+        check("no difference", first_difference(printed_entries(page), table_entries(as_source(WRITTEN, row)), WRITTEN), "")
     for wrong, k in WRONG_TABLES:
         for printed, table in ((wrong, WRITTEN), (WRITTEN, wrong), (wrong, wrong)):
-            told = first_difference(printed_entries(as_printed(printed)), table_entries(as_source(table)), WRITTEN)
-            check(f"a table wrong at {k} shows", told.partition(":")[0], f"DIFFERENCE in entry {k}")
+            for row in ROWS:
+                told = first_difference(printed_entries(as_printed(printed)), table_entries(as_source(table, row)), WRITTEN)
+                check(f"a table wrong at {k} shows", told.partition(":")[0], f"DIFFERENCE in entry {k}")
+    both = first_difference(printed_entries(as_printed(with_entry(3, "5, 14"))), WRITTEN, WRITTEN)
+    check("two entries on a line of the print", both.partition(":")[0], "DIFFERENCE in entry 3")
     check("no last newline", refused(printed_entries, page[:-1]), True)
     for unlike in (source * 2, source + "\n", source.replace("1025", "1024"), source.replace(",\n]", "\n]"),
                    source.replace("SUMS", "SUM"), source.replace("    5,\n", "    5, // 6\n")):

@@ -1,6 +1,6 @@
 /*
- * The proved calls on outlines, on their third moments, on two walks of one plot, on a receiver's fixes, on regions and on masks, for C and C++ on x86-64 Linux. Link target/staticlib/libexports.a,
- * which `rt staticlib exports` writes.
+ * The proved calls on outlines, on their third moments, on two walks of one plot, on a receiver's fixes, on regions and on masks, for C and C++ on x86-64 Linux. Link crates/exports/out/libexports.a,
+ * which `rt lib`, run in crates/exports, writes.
  *
  * Each call answers a number: 0 where it is accepted, else that of document 01's or 02's refusal, named at each call, the first that applies in the order given. It writes its values to the
  * front of `out`, zeros with every refusal but for the index of a run, and nothing behind them. Where `out_length` is less than the number of its values, it writes nothing, to no list either, and
