@@ -7,5 +7,5 @@ use Rattle.worked_entries.proofs.calls.beside_sheet.Goals as goal
 pub returns : goal.returns
 unfolding of_bits
 returns c =
-    let given = c.before.args in
+    let given = c.args in
     ap (λ t. record { number = given.number; totals = t; outage = plus_zero; walk = given.walk; sheet = given.sheet }) c.no_totals-totals.ensures

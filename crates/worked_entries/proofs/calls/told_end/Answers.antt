@@ -4,13 +4,11 @@ use Rattle.worked_entries.proofs.calls.told_end.Goals as goal
 
 pub returns : goal.returns
 returns c =
-    let totalled = c.before.before.before.before in
-    let replied = totalled.before in
     (λ i. record {
-      number = c.before.number.ensures i;
-      totals = totalled.totals_of_end-totals.ensures i;
+      number = c.number.ensures i;
+      totals = c.totals_of_end-totals.ensures i;
       outage = c.outage_of_end.ensures i;
-      walk = replied.end-reply.result.walk;
-      sheet = replied.end-reply.result.sheet;
+      walk = c.end-reply.result.walk;
+      sheet = c.end-reply.result.sheet;
     })
-    ∙ replied.end-reply.ensures
+    ∙ c.end-reply.ensures

@@ -5,9 +5,7 @@ use Rattle.worked_entries.proofs.calls.told_entry.Goals as goal
 
 pub returns : goal.returns
 returns c =
-    let numbered = c.before in
-    let replied = numbered.before in
-    let sheet = replied.before.args.sheet in
+    let sheet = c.args.sheet in
     c.beside_sheet.ensures
-    ∙ (λ i. beside_sheet (record { number = numbered.number.ensures i; walk = replied.entry-reply.result.walk }) sheet)
-    ∙ ap (λ o. beside_sheet o sheet) replied.entry-reply.ensures
+    ∙ (λ i. beside_sheet (record { number = c.number.ensures i; walk = c.entry-reply.result.walk }) sheet)
+    ∙ ap (λ o. beside_sheet o sheet) c.entry-reply.ensures

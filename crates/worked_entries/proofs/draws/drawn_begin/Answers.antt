@@ -10,13 +10,13 @@ use Rattle.worked_entries.proofs.draws.drawn_begin.Goals as goal
 pub returns-then-draw-eq1 : goal.returns-then-draw-eq1
 unfolding drawn_begin
 returns-then-draw-eq1 c =
-    let draw = c.before.next_draw-draw.result in
+    let draw = c.next_draw-draw.result in
     let hole : record { call = Begin Hole; state = draw } ≡ begin_of_draw draw = rw (eq-eqb (draw % 2) 1 c.if-draw-eq1.true) in
-    hole ∙ ap begin_of_draw c.before.next_draw-draw.ensures
+    hole ∙ ap begin_of_draw c.next_draw-draw.ensures
 
 pub returns : goal.returns
 unfolding drawn_begin
 returns c =
-    let draw = c.before.next_draw-draw.result in
+    let draw = c.next_draw-draw.result in
     let island : record { call = Begin Island; state = draw } ≡ begin_of_draw draw = rw (ne_eqb (draw % 2) 1 c.if-draw-eq1.false) in
-    island ∙ ap begin_of_draw c.before.next_draw-draw.ensures
+    island ∙ ap begin_of_draw c.next_draw-draw.ensures

@@ -9,35 +9,29 @@ use Rattle.worked_entries.proofs.draws.drawn_call.Goals as goal
 pub returns-then-draw-le8 : goal.returns-then-draw-le8
 unfolding drawn_call
 returns-then-draw-le8 c =
-    let drawn = c.before.before in
-    let draw = drawn.next_draw-draw.result in
-    let fix : drawn_fix draw ≡ call_of_draw draw = rw (le-leb (draw % 16) 8 c.before.if-draw-le8.true) in
-    c.drawn_fix.ensures ∙ fix ∙ ap call_of_draw drawn.next_draw-draw.ensures
+    let draw = c.next_draw-draw.result in
+    let fix : drawn_fix draw ≡ call_of_draw draw = rw (le-leb (draw % 16) 8 c.if-draw-le8.true) in
+    c.drawn_fix.ensures ∙ fix ∙ ap call_of_draw c.next_draw-draw.ensures
 
 pub returns-then-draw-le13 : goal.returns-then-draw-le13
 unfolding drawn_call
 returns-then-draw-le13 c =
-    let no-fix = c.before.before in
-    let draw = no-fix.before.next_draw-draw.result in
-    let outage : drawn_outage draw ≡ call_of_draw draw = rw (lt-leb (draw % 16) 8 no-fix.if-draw-le8.false, le-leb (draw % 16) 13 c.before.if-draw-le13.true) in
-    c.drawn_outage.ensures ∙ outage ∙ ap call_of_draw no-fix.before.next_draw-draw.ensures
+    let draw = c.next_draw-draw.result in
+    let outage : drawn_outage draw ≡ call_of_draw draw = rw (lt-leb (draw % 16) 8 c.if-draw-le8.false, le-leb (draw % 16) 13 c.if-draw-le13.true) in
+    c.drawn_outage.ensures ∙ outage ∙ ap call_of_draw c.next_draw-draw.ensures
 
 pub returns-then-draw-eq14 : goal.returns-then-draw-eq14
 unfolding drawn_call
 returns-then-draw-eq14 c =
-    let no-outage = c.before.before in
-    let no-fix = no-outage.before in
-    let draw = no-fix.before.next_draw-draw.result in
+    let draw = c.next_draw-draw.result in
     let begin : drawn_begin draw ≡ call_of_draw draw =
-    rw (lt-leb (draw % 16) 8 no-fix.if-draw-le8.false, lt-leb (draw % 16) 13 no-outage.if-draw-le13.false, eq-eqb (draw % 16) 14 c.before.if-draw-eq14.true) in
-    c.drawn_begin.ensures ∙ begin ∙ ap call_of_draw no-fix.before.next_draw-draw.ensures
+    rw (lt-leb (draw % 16) 8 c.if-draw-le8.false, lt-leb (draw % 16) 13 c.if-draw-le13.false, eq-eqb (draw % 16) 14 c.if-draw-eq14.true) in
+    c.drawn_begin.ensures ∙ begin ∙ ap call_of_draw c.next_draw-draw.ensures
 
 pub returns : goal.returns
 unfolding drawn_call
 returns c =
-    let no-outage = c.before in
-    let no-fix = no-outage.before in
-    let draw = no-fix.before.next_draw-draw.result in
+    let draw = c.next_draw-draw.result in
     let end : record { call = End; state = draw } ≡ call_of_draw draw =
-    rw (lt-leb (draw % 16) 8 no-fix.if-draw-le8.false, lt-leb (draw % 16) 13 no-outage.if-draw-le13.false, ne_eqb (draw % 16) 14 c.if-draw-eq14.false) in
-    end ∙ ap call_of_draw no-fix.before.next_draw-draw.ensures
+    rw (lt-leb (draw % 16) 8 c.if-draw-le8.false, lt-leb (draw % 16) 13 c.if-draw-le13.false, ne_eqb (draw % 16) 14 c.if-draw-eq14.false) in
+    end ∙ ap call_of_draw c.next_draw-draw.ensures

@@ -6,6 +6,6 @@ use Rattle.worked_entries.proofs.draws.drawn_fix.Goals as goal
 pub returns : goal.returns
 unfolding drawn_fix
 returns c =
-    let east = c.before.drawn_float-east.ensures in
+    let east = c.drawn_float-east.ensures in
     let north = c.drawn_float-north.ensures ∙ ap (λ f. drawn_float f.state) east in
     (λ i. fix_of_floats (east i) (north i))

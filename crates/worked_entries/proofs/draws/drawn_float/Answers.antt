@@ -21,18 +21,13 @@ size_bound kind draw = go (eqb (kind % 8) 0) (eqb (kind % 8) 1) (eqb (kind % 8) 
 
 pub overflow_add-bits : goal.overflow_add-bits
 overflow_add-bits c =
-    let drawn = c.before.before in
-    omega (arith, c.drawn_size.ensures, size_bound drawn.before.next_draw-kind.result drawn.next_draw-draw.result)
+    omega (arith, c.drawn_size.ensures, size_bound c.next_draw-kind.result c.next_draw-draw.result)
 
 pub returns : goal.returns
 unfolding drawn_float
 returns c =
-    let sized = c.before in
-    let signed = sized.before in
-    let second = signed.before in
-    let first = second.before in
-    let sign = signed.next_draw-sign.result in
-    let draw-told = second.next_draw-draw.ensures ∙ ap next_draw first.next_draw-kind.ensures in
+    let sign = c.next_draw-sign.result in
+    let draw-told = c.next_draw-draw.ensures ∙ ap next_draw c.next_draw-kind.ensures in
     (λ i. record { value = c.float_of.ensures i; state = sign })
-    ∙ ap (λ size. record { value = float_of (size + sign % 2 * 0x80000000); state = sign }) sized.drawn_size.ensures
-    ∙ (λ i. of_three_draws (first.next_draw-kind.ensures i) (draw-told i) ((signed.next_draw-sign.ensures ∙ ap next_draw draw-told) i))
+    ∙ ap (λ size. record { value = float_of (size + sign % 2 * 0x80000000); state = sign }) c.drawn_size.ensures
+    ∙ (λ i. of_three_draws (c.next_draw-kind.ensures i) (draw-told i) ((c.next_draw-sign.ensures ∙ ap next_draw draw-told) i))

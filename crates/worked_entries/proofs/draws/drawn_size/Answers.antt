@@ -6,26 +6,22 @@ use Rattle.worked_entries.proofs.draws.drawn_size.Goals as goal
 
 pub returns-then-kind-eq0 : goal.returns-then-kind-eq0
 unfolding drawn_size
-returns-then-kind-eq0 c = rw (eq-eqb (c.before.args.kind % 8) 0 c.if-kind-eq0.true)
+returns-then-kind-eq0 c = rw (eq-eqb (c.args.kind % 8) 0 c.if-kind-eq0.true)
 
 pub returns-then-kind-eq1 : goal.returns-then-kind-eq1
 unfolding drawn_size
 returns-then-kind-eq1 c =
-    let one = c.before in
-    let other = one.before in
-    let kind = other.before.args.kind in
-    rw (ne_eqb (kind % 8) 0 other.if-kind-eq0.false, eq-eqb (kind % 8) 1 one.if-kind-eq1.true) c.lesser.ensures
+    let kind = c.args.kind in
+    rw (ne_eqb (kind % 8) 0 c.if-kind-eq0.false, eq-eqb (kind % 8) 1 c.if-kind-eq1.true) c.lesser.ensures
 
 pub returns-then-kind-eq2 : goal.returns-then-kind-eq2
 unfolding drawn_size
 returns-then-kind-eq2 c =
-    let other = c.before.before in
-    let kind = other.before.args.kind in
-    rw (ne_eqb (kind % 8) 0 other.if-kind-eq0.false, ne_eqb (kind % 8) 1 c.before.if-kind-eq1.false, eq-eqb (kind % 8) 2 c.if-kind-eq2.true)
+    let kind = c.args.kind in
+    rw (ne_eqb (kind % 8) 0 c.if-kind-eq0.false, ne_eqb (kind % 8) 1 c.if-kind-eq1.false, eq-eqb (kind % 8) 2 c.if-kind-eq2.true)
 
 pub returns : goal.returns
 unfolding drawn_size
 returns c =
-    let other = c.before.before in
-    let kind = other.before.args.kind in
-    rw (ne_eqb (kind % 8) 0 other.if-kind-eq0.false, ne_eqb (kind % 8) 1 c.before.if-kind-eq1.false, ne_eqb (kind % 8) 2 c.if-kind-eq2.false)
+    let kind = c.args.kind in
+    rw (ne_eqb (kind % 8) 0 c.if-kind-eq0.false, ne_eqb (kind % 8) 1 c.if-kind-eq1.false, ne_eqb (kind % 8) 2 c.if-kind-eq2.false)

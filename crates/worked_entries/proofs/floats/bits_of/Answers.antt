@@ -10,11 +10,11 @@ use Rattle.worked_entries.proofs.floats.bits_of.Goals as goal
 
 pub returns-then-f : goal.returns-then-f
 unfolding bits_of is_nan
-returns-then-f c = rw (differs_from_itself c.before.args.f (subst T (sym c.if-f.true) tt))
+returns-then-f c = rw (differs_from_itself c.args.f (subst T (sym c.if-f.true) tt))
 
 pub float_to_bits-result : goal.float_to_bits-result
-float_to_bits-result c = has_bits c.before.args.f c.if-f.false
+float_to_bits-result c = has_bits c.args.f c.if-f.false
 
 pub returns : goal.returns
 unfolding bits_of
-returns c = let f = c.before.args.f in rw (is_false (is_nan f) (has_bits f c.if-f.false))
+returns c = let f = c.args.f in rw (is_false (is_nan f) (has_bits f c.if-f.false))

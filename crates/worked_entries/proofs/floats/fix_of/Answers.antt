@@ -2,4 +2,4 @@
 use Rattle.worked_entries.proofs.floats.fix_of.Goals as goal
 
 pub returns : goal.returns
-returns c i = record { east = c.before.float_of.ensures i; north = c.float_of-2.ensures i }
+returns c i = record { east = c.float_of.ensures i; north = c.float_of-2.ensures i }

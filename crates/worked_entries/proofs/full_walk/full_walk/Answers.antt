@@ -12,13 +12,12 @@ loop-rounds-init c = (omega arith, refl)
 
 pub loop-rounds-preserved : goal.loop-rounds-preserved
 unfolding after_rounds
-loop-rounds-preserved c = (omega arith, rw add-one (c.walk_round-walk.ensures ∙ ap after_round c.before.before.loop-rounds.invariant.1))
+loop-rounds-preserved c = (omega arith, rw add-one (c.walk_round-walk.ensures ∙ ap after_round c.loop-rounds.invariant.1))
 
 pub returns : goal.returns
 unfolding full_walk
 returns c =
-    let at = c.before.loop-rounds in
+    let at = c.loop-rounds in
     let all : at.rounds ≡ 256 = omega arith in
-    let begun = c.before.before.before in
-    let walk = ap (λ r. r.walk) (begun.begin-begun.ensures ∙ ap (λ w. begin_call w Island) begun.before.new_walk.ensures) in
+    let walk = ap (λ r. r.walk) (c.begin-begun.ensures ∙ ap (λ w. begin_call w Island) c.new_walk.ensures) in
     at.invariant.1 ∙ (λ i. after_rounds (all i) (walk i))

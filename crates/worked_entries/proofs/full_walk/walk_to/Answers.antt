@@ -6,6 +6,4 @@ use Rattle.worked_entries.proofs.full_walk.walk_to.Goals as goal
 
 pub returns : goal.returns
 returns c =
-    let told = c.before in
-    let made = told.before in
-    ap (λ r. r.walk) told.entry-reply.ensures ∙ ap (λ f. (entry_call made.before.args.w (Fix f)).walk) made.fix_of-fix.ensures
+    ap (λ r. r.walk) c.entry-reply.ensures ∙ ap (λ f. (entry_call c.args.w (Fix f)).walk) c.fix_of-fix.ensures

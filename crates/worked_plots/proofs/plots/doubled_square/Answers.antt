@@ -10,10 +10,10 @@ use Rattle.worked_plots.specs.Plots.{doubling}
 use Rattle.worked_plots.proofs.plots.doubled_square.Goals as goal
 
 pub slice_bounds-outline_totals-end : goal.slice_bounds-outline_totals-end
-slice_bounds-outline_totals-end c = sym (length-take-le (c.before.before.args.rounds * 8) c.before.square_numbers-numbers.result (omega arith))
+slice_bounds-outline_totals-end c = sym (length-take-le (c.args.rounds * 8) c.square_numbers-numbers.result (omega arith))
 
 pub returns : goal.returns
 returns c =
-    let n = c.before.before.before.before.before.args.rounds * 8 in
-    let listed = c.before.totals_of_list-totals.ensures ∙ ap (λ r. r.totals) (c.before.before.outline_totals.ensures ∙ ap (λ l. list_call (take n l)) c.before.before.before.before.square_numbers-numbers.ensures) in
+    let n = c.args.rounds * 8 in
+    let listed = c.totals_of_list-totals.ensures ∙ ap (λ r. r.totals) (c.outline_totals.ensures ∙ ap (λ l. list_call (take n l)) c.square_numbers-numbers.ensures) in
     c.map_totals.ensures ∙ ap (map_call doubling) listed

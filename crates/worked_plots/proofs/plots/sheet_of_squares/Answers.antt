@@ -8,21 +8,19 @@ use Rattle.worked_plots.proofs.plots.sheet_of_squares.Goals as goal
 pub loop-done-init : goal.loop-done-init
 unfolding end_after
 loop-done-init c =
-    let walk = c.before.before.walk_square.ensures ∙ ap walked_square c.before.before.before.new_walk.ensures in
-    (omega arith, c.end-reply.ensures ∙ (λ i. end_call (walk i) (c.before.new_sheet.ensures i)))
+    let walk = c.walk_square.ensures ∙ ap walked_square c.new_walk.ensures in
+    (omega arith, c.end-reply.ensures ∙ (λ i. end_call (walk i) (c.new_sheet.ensures i)))
 
 pub overflow_add-done : goal.overflow_add-done
 overflow_add-done c =
-    let looped = c.before.before.before in
-    let s = looped.before.before.before.before.before in
-    omega (arith, s.ranges.earlier, c.before.before.loop-done-test)
+    omega (arith, c.ranges.earlier, c.loop-done-test)
 
 pub loop-done-preserved : goal.loop-done-preserved
 unfolding end_after
 loop-done-preserved c =
-    let last = c.before.before.before.loop-done.invariant.1 in
-    let walk = c.before.walk_square-w.ensures ∙ ap (λ r. walked_square r.walk) last in
+    let last = c.loop-done.invariant.1 in
+    let walk = c.walk_square-w.ensures ∙ ap (λ r. walked_square r.walk) last in
     (omega arith, rw add-one (c.end-reply-in-loop-done.ensures ∙ (λ i. end_call (walk i) (last i).sheet)))
 
 pub returns : goal.returns
-returns c = c.before.loop-done.invariant.1 ∙ ap end_after (omega arith)
+returns c = c.loop-done.invariant.1 ∙ ap end_after (omega arith)

@@ -6,4 +6,4 @@ use Rattle.worked_plots.specs.Plots.{triangle}
 use Rattle.worked_plots.proofs.plots.triangle_totals.Goals as goal
 
 pub returns : goal.returns
-returns c = c.outline_totals.ensures ∙ ap (λ x. list_call (triangle x)) (to_z-of_z c.before.before.ranges.x)
+returns c = c.outline_totals.ensures ∙ ap (λ x. list_call (triangle x)) (to_z-of_z c.ranges.x)

@@ -11,11 +11,11 @@ loop-rounds-init c = (omega arith, refl)
 
 pub loop-rounds-preserved : goal.loop-rounds-preserved
 unfolding after_rounds
-loop-rounds-preserved c = (omega arith, rw add-one (c.walk_round-walk.ensures ∙ ap (λ w. after_points w (points square)) c.before.before.loop-rounds.invariant.1))
+loop-rounds-preserved c = (omega arith, rw add-one (c.walk_round-walk.ensures ∙ ap (λ w. after_points w (points square)) c.loop-rounds.invariant.1))
 
 pub returns : goal.returns
 unfolding walked_square
 returns c =
-    let at = c.before.loop-rounds in
+    let at = c.loop-rounds in
     let all : at.rounds ≡ 256 = omega arith in
-    at.invariant.1 ∙ (λ i. after_rounds (all i) (c.before.before.before.begin-begun.ensures i).walk)
+    at.invariant.1 ∙ (λ i. after_rounds (all i) (c.begin-begun.ensures i).walk)

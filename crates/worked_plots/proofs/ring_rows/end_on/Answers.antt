@@ -6,4 +6,4 @@ use Rattle.worked_plots.specs.Plots.{area_alone}
 use Rattle.worked_plots.proofs.ring_rows.end_on.Goals as goal
 
 pub returns : goal.returns
-returns c = let s = c.before in c.end.ensures ∙ (λ i. end_call s.args.walk (sheet_of 1 (area_alone (to_z-of_z s.ranges.a2 i))))
+returns c = let s = c in c.end.ensures ∙ (λ i. end_call s.args.walk (sheet_of 1 (area_alone (to_z-of_z s.ranges.a2 i))))

@@ -5,16 +5,10 @@ use mir.Syntax.{w32}
 use mir.Val.{SFits}
 use mir.Facts.{to_z-of_z}
 use Rattle.outline.specs.WalkCalls.{point_call}
-use Rattle.worked_plots.proofs.ring_rows.walk_to.Goals.{Start}
 use Rattle.worked_plots.proofs.ring_rows.walk_to.Goals as goal
-
-fits_x : (s : Start) → SFits w32 s.args.p.x
-fits_x s = search rules
-
-fits_y : (s : Start) → SFits w32 s.args.p.y
-fits_y s = search rules
 
 pub returns : goal.returns
 returns c =
-    let s = c.before.before.before.before in
-    ap (λ r. r.walk) c.before.point-reply.ensures ∙ (λ i. (point_call s.args.w (record { x = to_z-of_z (fits_x s) i; y = to_z-of_z (fits_y s) i })).walk)
+    let x : SFits w32 c.args.p.x = search rules in
+    let y : SFits w32 c.args.p.y = search rules in
+    ap (λ r. r.walk) c.point-reply.ensures ∙ (λ i. (point_call c.args.w (record { x = to_z-of_z x i; y = to_z-of_z y i })).walk)
