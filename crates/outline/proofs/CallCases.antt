@@ -52,9 +52,29 @@ pub data EndCase (w : Walk) (s : Sheet) : EndOutcome → Type 0 where
   refused : (n : ℕ) → EndRefusal w s n → EndCase w s (refused_end n w s)
   accepted : Ends w s → EndCase w s (ended_with s (added_totals w) w.outage)
 
-pub end_case : (w : Walk) (s : Sheet) → EndCase w s (end_call w s)
+-- The end of a walk, by what its tests give.
+abbrev pub by_tests : Walk → Sheet → (a b c d f g : Bool) → EndOutcome
+by_tests w s a b c d f g =
+    cond a (refused_end 28 w s) (cond b (refused_end 21 w s) (cond c (refused_end 24 w s) (cond d (refused_end 32 w s) (cond f (refused_end 25 w s) (cond g (refused_end 26 w s) (ended_with s (added_totals w) w.outage))))))
+
+-- P of the end, whatever its tests give.
+abbrev pub EveryEnd : Walk → Sheet → (EndOutcome → Type 0) → Type 0
+EveryEnd w s P =
+    (a b c d f g : Bool) →
+    (impossible_walk w || impossible_sheet s) ≡ a →
+    not w.is_open ≡ b →
+    ltb w.count 3 ≡ c →
+    zero_area (closed_totals w) ≡ d →
+    leb 64 s.count ≡ f →
+    exceed total_limits (plus s.totals (added_totals w)) ≡ g →
+    P (by_tests w s a b c d f g)
+
+pub end_by : (w : Walk) (s : Sheet) (P : EndOutcome → Type 0) → EveryEnd w s P → P (end_call w s)
 unfolding end_call
-end_case w s = go (impossible_walk w || impossible_sheet s) (not w.is_open) (ltb w.count 3) (zero_area (closed_totals w)) (leb 64 s.count) (exceed total_limits (plus s.totals (added_totals w))) refl refl refl refl refl refl
+end_by w s P k = k (impossible_walk w || impossible_sheet s) (not w.is_open) (ltb w.count 3) (zero_area (closed_totals w)) (leb 64 s.count) (exceed total_limits (plus s.totals (added_totals w))) refl refl refl refl refl refl
+
+pub end_case : (w : Walk) (s : Sheet) → EndCase w s (end_call w s)
+end_case w s = end_by w s (EndCase w s) go
   where
     closable : not w.is_open ≡ false → ltb w.count 3 ≡ false → Closable w
     closable e f = record { is_open = not-false w.is_open e; enough = ltb-false w.count 3 f }
@@ -62,7 +82,7 @@ end_case w s = go (impossible_walk w || impossible_sheet s) (not w.is_open) (ltb
     plain : (n : ℕ) → eqb n 32 ≡ false → Refusal (impossible_walk w || impossible_sheet s) n → EndCase w s (refused_end n w s)
     plain n e r = refused n (record { refusal = r; only_32 = λ h. absurd (eqb-false n 32 e h) })
 
-    go : (a b c d f g : Bool) → (impossible_walk w || impossible_sheet s) ≡ a → not w.is_open ≡ b → ltb w.count 3 ≡ c → zero_area (closed_totals w) ≡ d → leb 64 s.count ≡ f → exceed total_limits (plus s.totals (added_totals w)) ≡ g → EndCase w s (cond a (refused_end 28 w s) (cond b (refused_end 21 w s) (cond c (refused_end 24 w s) (cond d (refused_end 32 w s) (cond f (refused_end 25 w s) (cond g (refused_end 26 w s) (ended_with s (added_totals w) w.outage)))))))
+    go : EveryEnd w s (EndCase w s)
     go true b c d f g ea eb ec ed ef eg = plain 28 refl (number_28 ea)
     go false true c d f g ea eb ec ed ef eg = plain 21 refl (other 21 refl refl)
     go false false true d f g ea eb ec ed ef eg = plain 24 refl (other 24 refl refl)

@@ -19,7 +19,7 @@ use Rattle.outline.specs.WalkedOutline.{Closable}
 use Rattle.outline.specs.EveryOutline.{ended_with}
 use Rattle.outline.specs.Rings.{SignByKind, SameEnd, WalkedBack}
 use Rattle.outline.proofs.IndexLaws.{points-numbers}
-use Rattle.outline.proofs.CallCases.{end-accepted}
+use Rattle.outline.proofs.CallCases.{by_tests, end_by, end-accepted}
 use Rattle.outline.proofs.PlacedPieces.{walked-length, start-length}
 use Rattle.outline.proofs.PiecesLaws.{no_cut_no_map}
 use Rattle.outline.proofs.TurnedTotals.{sign_of_turned, turned-directed, directed-zero_area}
@@ -53,18 +53,39 @@ module _ (w v : Walk) (s : Sheet) where
       go true k = refused
       go false k = k refl
 
+  same_tests :
+      {a b c d f g a' b' c' d' f' g' : Bool} →
+      a ≡ a' →
+      b ≡ b' →
+      c ≡ c' →
+      (c ≡ false → d ≡ d') →
+      f ≡ f' →
+      (c ≡ false → d ≡ false → g ≡ g') →
+      (c ≡ false → d ≡ false → added_totals w ≡ added_totals v) →
+      SameEnd (by_tests w s a b c d f g) (by_tests v s a' b' c' d' f' g')
+  same_tests ea eb ec ed ef eg added =
+      same_test ea (both_refused 28) (λ _.
+      same_test eb (both_refused 21) (λ _.
+      same_test ec (both_refused 24) (λ c.
+      same_test (ed c) (both_refused 32) (λ d.
+      same_test ef (both_refused 25) (λ _.
+      same_test (eg c d) (both_refused 26) (λ _.
+      both_ended (added_totals w) (added_totals v) w.outage v.outage (added c d)))))))
+
   same_end : impossible_walk w ≡ impossible_walk v → w.is_open ≡ v.is_open → Alike w v → SameEnd (end_call w s) (end_call v s)
-  unfolding end_call
-  same_end possible is_open a =
-      same_test (ap (λ b. b || impossible_sheet s) possible) (both_refused 28) (λ _.
-      same_test (ap not is_open) (both_refused 21) (λ _.
-      same_test (ap (λ n. ltb n 3) a.count) (both_refused 24) (λ c.
-      let enough = ltb-false w.count 3 c in
-      same_test (a.area enough) (both_refused 32) (λ z.
-      let added = a.added enough z in
-      same_test {a = leb 64 s.count} refl (both_refused 25) (λ _.
-      same_test (ap (λ t. exceed total_limits (plus s.totals t)) added) (both_refused 26) (λ _.
-      both_ended (added_totals w) (added_totals v) w.outage v.outage added))))))
+  same_end possible is_open k =
+      end_by w s (λ e. SameEnd e (end_call v s)) (λ a b c d f g ea eb ec ed ef eg.
+      end_by v s (λ e. SameEnd (by_tests w s a b c d f g) e) (λ a' b' c' d' f' g' ea' eb' ec' ed' ef' eg'.
+      let enough : c ≡ false → 3 ≤ w.count = λ h. ltb-false w.count 3 (ec ∙ h) in
+      let added : c ≡ false → d ≡ false → added_totals w ≡ added_totals v = λ h z. k.added (enough h) (ed ∙ z) in
+      same_tests
+      (sym ea ∙ ap (λ b. b || impossible_sheet s) possible ∙ ea')
+      (sym eb ∙ ap not is_open ∙ eb')
+      (sym ec ∙ ap (λ n. ltb n 3) k.count ∙ ec')
+      (λ h. sym ed ∙ k.area (enough h) ∙ ed')
+      (sym ef ∙ ef')
+      (λ h z. sym eg ∙ ap (λ t. exceed total_limits (plus s.totals t)) (added h z) ∙ eg')
+      added))
 
 module _ (first second : Walking) (start : ℕ) (direction : Direction) (same : (reached second).ring.points ≡ start_at start (walked direction (reached first).ring.points)) where
   -- Its totals with the closing edge are those of the first, their signs turned if walked backwards.
