@@ -1,3 +1,4 @@
 mod Turns
 mod SoFar
 mod StepLaws
+mod StillToWrite

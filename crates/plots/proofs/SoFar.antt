@@ -1,12 +1,12 @@
 -- What the program's loop has read and written so far: the steps of specs/LoopSteps are a run of text_program/Chunks, and each turn of the loop adds to them.
-use Prim.Native.Nat.{ℕ, ◌+◌, ◌-◌, ◌≤◌}
+use Prim.Native.Nat.{ℕ, ◌+◌, ◌-◌, ◌≤◌, ◌<◌}
 use mathlib.Core.Path.{◌≡◌, refl, sym, ap, subst, ◌∙◌}
 use mathlib.Core.Bool.{Bool, true, false, true≢false}
 use mathlib.Core.List.{List, [], ◌++◌, append_assoc, append-nil}
 use native.Mathlib.Omega.{arith}
 use lib.Dec.{eqb}
 use lib.IntN.{ℤ, pos}
-use lib.ListN.{length, take, drop, length-drop}
+use lib.ListN.{length, take, drop, length-append, length-drop, take-append-drop}
 use lib.Seq.{drop-drop, take-add, drop_at, length-take-le}
 use borrow.Author.Tests.{eqb-true}
 use borrow.Rule.Slice.PartMut.{mid_len}
@@ -20,12 +20,14 @@ use Rattle.decimals.proofs.BufferLaws.{in_front}
 use Rattle.text_program.specs.declared.State.{State}
 use Rattle.text_program.specs.Program.{program}
 use Rattle.text_program.specs.Stream.{start, feed_call}
-use Rattle.text_program.specs.Chunks.{Place, Run, here, reads, feeds}
-use Rattle.text_program.proofs.Chunks.{chunks}
+use Rattle.text_program.specs.Chunks.{Place, Run, here, reads, feeds, remaining_at}
+use Rattle.text_program.proofs.Chunks.{chunks, chunks_so_far}
 use Rattle.stream.specs.declared.Fed.{Fed}
 use Rattle.stream.specs.Feeding.{Feeds}
 use Rattle.plots.specs.declared.Received.{Received}
+use Rattle.plots.specs.Front.{AppendsFront}
 use Rattle.plots.specs.LoopSteps.{LoopSteps, none, called, received, AllWritten}
+use Rattle.plots.proofs.StillToWrite.{still_some}
 
 -- ---- steps are a run of text_program/Chunks
 
@@ -68,6 +70,29 @@ finished (Some bytes) held₀ None held k w = absurd k.taken
 finished (Some bytes) held₀ (Some rest) held {last} {st} {s} {buffer} k w =
     let all : k.out ≡ program (k.input ++ rest) = all_written last st s buffer k.input k.out k.steps w rest k.end in
     subst (λ b. Appends held₀ held (program b)) (sym k.taken) (subst (Appends held₀ held) all k.put)
+
+-- Where it is not written: a front of that.
+pub stopped : (unread₀ held₀ unread held : Option (List ℕ)) {last : Bool} {st : State} {s : Sheet} {buffer : List ℕ} → SoFar unread₀ held₀ unread held last st s buffer → st.written ≡ false → IfSome unread₀ (λ bytes. AppendsFront held₀ held (program bytes))
+stopped None held₀ unread held k w = tt
+stopped (Some bytes) held₀ None held k w = absurd k.taken
+stopped (Some bytes) held₀ (Some rest) held {last} {st} {s} {buffer} k w =
+    let p = place st s buffer rest in
+    let all : k.out ++ remaining_at p ≡ program (k.input ++ rest) = chunks_so_far p (k.input ++ rest) k.out (steps-run k.steps rest k.end) in
+    (k.out, remaining_at p, k.put, all ∙ ap program (sym k.taken), still_some st s (buffer ++ rest) w)
+
+-- Where of what a call puts only a front is written: a front of that.
+pub cut_short : (unread₀ held₀ unread held held' : Option (List ℕ)) {last : Bool} {st : State} {s : Sheet} {buffer : List ℕ} (room n : ℕ) (text : List ℕ) → text ≡ (feed_call last st s buffer room).output → n < length text → Appends held held' (take n text) → SoFar unread₀ held₀ unread held last st s buffer → IfSome unread₀ (λ bytes. AppendsFront held₀ held' (program bytes))
+cut_short None held₀ unread held held' room n text t h a k = tt
+cut_short (Some bytes) held₀ None held held' room n text t h a k = absurd k.taken
+cut_short (Some bytes) held₀ (Some rest) held held' {last} {st} {s} {buffer} room n text t h a k =
+    let r = feed_call last st s buffer room in
+    let p = place r.state r.sheet (drop r.used buffer) rest in
+    let left = remaining_at p in
+    let all : (k.out ++ (r.output ++ [])) ++ left ≡ program (k.input ++ rest) = chunks_so_far p (k.input ++ rest) (k.out ++ (r.output ++ [])) (then (steps-run k.steps rest k.end) (feeds last room r k.end refl here)) in
+    let put : (take n text ++ drop n text) ≡ r.output ++ [] = take-append-drop n text ∙ t ∙ sym (append-nil r.output) in
+    let joined : (k.out ++ take n text) ++ (drop n text ++ left) ≡ (k.out ++ (r.output ++ [])) ++ left =
+    sym (append_assoc (k.out ++ take n text) (drop n text) left) ∙ ap (λ l. l ++ left) (append_assoc k.out (take n text) (drop n text) ∙ ap (λ l. k.out ++ l) put) in
+    (k.out ++ take n text, drop n text ++ left, Appends-trans held₀ held held' k.out (take n text) k.put a, joined ∙ all ∙ ap program (sym k.taken), simp length-append (omega (arith, length-drop n text)))
 
 -- ---- the steps as the loop makes them, with the buffers' places `at` and `have`
 

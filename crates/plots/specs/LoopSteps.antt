@@ -1,5 +1,5 @@
--- Ours: what the program's loop has done, and what it comes to. No contract can speak of what a C function reads or writes, so no contract cites this: the invariant of
--- `run` holds it (proofs/run), and proofs/SoFar has the proof of the statement.
+-- Ours: what the program's loop has done, and what it comes to. The invariant of `run` holds it (proofs/run), proofs/SoFar has the proof of the statement, and the contract
+-- of `run` says what follows where it is known what the input has.
 use Rattle.std.specs.Prelude.{ℕ, ◌≡◌, Bool, true, false, List, [], ◌++◌, eqb, ℤ, pos, length, drop}
 use Rattle.outline.specs.declared.Sheet.{Sheet}
 use Rattle.outline.specs.WalkCalls.{new_sheet}

@@ -1,11 +1,12 @@
 // Document 01's text program, from standard input to standard output. What the bytes give is `stream`'s to say; here they are read and written, 64 KB at a time.
 #![tactic(auto)]
 
-ghost use Rattle.std.specs.Prelude.{◌≡◌, ◌+◌, ◌-◌, ◌≤◌, ◌<◌, min, pos, true, false, length, take, drop, is_err, OnOk, IfSome};
+ghost use Rattle.std.specs.Prelude.{◌≡◌, ℕ, ◌+◌, ◌-◌, ◌≤◌, ◌<◌, min, pos, true, false, length, take, drop, is_err, OnOk, OnErr, IfSome};
 ghost use Rattle.std.specs.Result.{result_unwrap_or};
 ghost use Rattle.std.specs.Io.KnownBytes.{Appends, Consumes, IsAtEnd, Keeps};
 ghost use Rattle.decimals.specs.Buffer.{overwritten};
 ghost use Rattle.text_program.specs.Program.{program};
+ghost use Rattle.plots.specs.Front.{AppendsFront};
 
 use std::io;
 use std::io::{Read, Write};
@@ -64,6 +65,22 @@ fn read_after<R: Read>(input: &mut R, buf: &mut [u8], have: usize) -> Received
     answered(got, part)
 }
 
+// Writes all of the text and answers true, or stops at the first write that fails or takes nothing.
+fn write_all<W: Write>(output: &mut W, text: &[u8]) -> bool
+    ensures whole { result ≡ true → Appends (W.contents output.old) (W.contents output.new) text.now }
+    ensures front { result ≡ false → (n : ℕ) × (n < length text.now) × Appends (W.contents output.old) (W.contents output.new) (take n text.now) }
+{
+    let mut done = 0;
+    while done < text.len() {
+        match output.write(&text[done..]) {
+            Ok(0) => return false,
+            Ok(n) => done += n,
+            Err(_) => return false,
+        }
+    }
+    true
+}
+
 // Why a run stops before the S line.
 #[derive(Clone, Copy)]
 enum Failure {
@@ -84,8 +101,10 @@ fn run<R: Read + AsRawFd, W: Write + AsRawFd>(
     requires out_size { 65536 ≡ length out.old }
     requires from_standard_input { (r : _) → R.raw_fd r ≡ Some (pos 0) }
     requires to_standard_output { (w : _) → W.raw_fd w ≡ Some (pos 1) }
-    ensures { OnOk result (IfSome (R.remaining input.old) (λ bytes.
+    ensures all_written { OnOk result (IfSome (R.remaining input.old) (λ bytes.
         Appends (W.contents output.old) (W.contents output.new) (program bytes))) }
+    ensures front_written { OnErr result (IfSome (R.remaining input.old) (λ bytes.
+        AppendsFront (W.contents output.old) (W.contents output.new) (program bytes))) }
 {
     let mut state = stream::start();
     let mut sheet = walk_state::new_sheet();
@@ -95,7 +114,7 @@ fn run<R: Read + AsRawFd, W: Write + AsRawFd>(
     loop {
         let f = stream::feed(state, sheet, &buf[at..have], last, out);
         let filled = f.filled;
-        if output.write_all(&out[..filled]).is_err() {
+        if !write_all(output, &out[..filled]) {
             return Err(Failure::Unwritten);
         }
         let s = f.state;
@@ -123,13 +142,13 @@ fn run<R: Read + AsRawFd, W: Write + AsRawFd>(
 fn report_unread<W: Write + AsRawFd>(errors: &mut W)
     requires { W.raw_fd errors.old ≡ Some (pos 2) }
 {
-    let _ = errors.write_all(b"plots: the input could not be read\n");
+    write_all(errors, b"plots: the input could not be read\n");
 }
 
 fn report_unwritten<W: Write + AsRawFd>(errors: &mut W)
     requires { W.raw_fd errors.old ≡ Some (pos 2) }
 {
-    let _ = errors.write_all(b"plots: the output could not be written\n");
+    write_all(errors, b"plots: the output could not be written\n");
 }
 
 fn main(rt: HostRuntime) {
