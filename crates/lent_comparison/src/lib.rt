@@ -8,7 +8,7 @@ ghost use Rattle.lent_comparison.specs.WholeAnswer.{whole_reading};
 use comparison::{FiguresAnswer, walk_figures};
 use longer_list::longer_walk;
 
-#[derive(Drop)]
+#[derive(Clone, Copy)]
 pub struct Comparison<'a> {
     pub answer: FiguresAnswer,
     pub longer: &'a [i32],

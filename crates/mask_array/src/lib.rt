@@ -10,7 +10,7 @@ use integers::lesser;
 use masks::{MaskRunsAnswer, mask_runs};
 
 // An answer, and the array afterwards.
-#[derive(Drop)]
+#[derive(Clone, Copy)]
 pub struct MaskRunsReply {
     pub answer: MaskRunsAnswer,
     pub runs: [Run; 4097],
