@@ -2,3 +2,4 @@ mod Turns
 mod SoFar
 mod StepLaws
 mod StillToWrite
+mod FrontLaws

@@ -63,13 +63,15 @@ at-start unread held = record { input = []; out = []; steps = none; taken = Cons
 pub all_written : AllWritten
 all_written last st s buffer input out steps w rest end = chunks (place st s buffer rest) (input ++ rest) out (steps-run steps rest end) w
 
--- Where the S line is written, and it is known what the input had: what was written is the program's output for it.
-pub finished : (unread₀ held₀ unread held : Option (List ℕ)) {last : Bool} {st : State} {s : Sheet} {buffer : List ℕ} → SoFar unread₀ held₀ unread held last st s buffer → st.written ≡ true → IfSome unread₀ (λ bytes. Appends held₀ held (program bytes))
-finished None held₀ unread held k w = tt
-finished (Some bytes) held₀ None held k w = absurd k.taken
-finished (Some bytes) held₀ (Some rest) held {last} {st} {s} {buffer} k w =
-    let all : k.out ≡ program (k.input ++ rest) = all_written last st s buffer k.input k.out k.steps w rest k.end in
-    subst (λ b. Appends held₀ held (program b)) (sym k.taken) (subst (Appends held₀ held) all k.put)
+-- Where the S line is written: what was written is the program's output for what was read, whatever may still come, and whatever is known of the two streams.
+pub at_return : {unread₀ held₀ unread held : Option (List ℕ)} {last : Bool} {st : State} {s : Sheet} {buffer : List ℕ} (k : SoFar unread₀ held₀ unread held last st s buffer) → st.written ≡ true → (rest : List ℕ) → (last ≡ true → rest ≡ []) → k.out ≡ program (k.input ++ rest)
+at_return {last = last} {st} {s} {buffer} k w = all_written last st s buffer k.input k.out k.steps w
+
+-- Where it is known what the input had: what was written is the program's output for it.
+pub finished : (unread₀ held₀ unread held : Option (List ℕ)) {last : Bool} {st : State} {s : Sheet} {buffer : List ℕ} (k : SoFar unread₀ held₀ unread held last st s buffer) → ((rest : List ℕ) → (last ≡ true → rest ≡ []) → k.out ≡ program (k.input ++ rest)) → IfSome unread₀ (λ bytes. Appends held₀ held (program bytes))
+finished None held₀ unread held k all = tt
+finished (Some bytes) held₀ None held k all = absurd k.taken
+finished (Some bytes) held₀ (Some rest) held k all = subst (λ b. Appends held₀ held (program b)) (sym k.taken) (subst (Appends held₀ held) (all rest k.end) k.put)
 
 -- Where it is not written: a front of that.
 pub stopped : (unread₀ held₀ unread held : Option (List ℕ)) {last : Bool} {st : State} {s : Sheet} {buffer : List ℕ} → SoFar unread₀ held₀ unread held last st s buffer → st.written ≡ false → IfSome unread₀ (λ bytes. AppendsFront held₀ held (program bytes))

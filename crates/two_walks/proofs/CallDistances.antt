@@ -9,14 +9,14 @@ use Rattle.two_walks.proofs.Refusals.{taken, some_points, compared}
 pub call_distances : CallDistances
 call_distances first second e =
     let both = (taken first second).0 e in
-    let some_IsFirst = some_points first both.0 in
+    let some-first = some_points first both.0 in
     let some-second = some_points second both.1 in
     let mean : DistancesMean first second (figures_of first second) =
     record {
-      forward = distance_means (points first) some_IsFirst (points second) some-second;
-      backward = distance_means (points second) some-second (points first) some_IsFirst;
+      forward = distance_means (points first) some-first (points second) some-second;
+      backward = distance_means (points second) some-second (points first) some-first;
       forward_zero = zero_distance (points first) (points second) some-second;
-      backward_zero = zero_distance (points second) (points first) some_IsFirst;
+      backward_zero = zero_distance (points second) (points first) some-first;
     }
     in
     subst (DistancesMean first second) (sym (compared first second e)) mean

@@ -21,7 +21,7 @@ use Rattle.stream.specs.declared.Fed.{Fed}
 use Rattle.stream.specs.Feeding.{Feeds}
 use Rattle.plots.proofs.Turns.{start-possible, BeforeRead, AfterCall, after_call}
 use Rattle.plots.specs.Front.{AppendsFront}
-use Rattle.plots.proofs.SoFar.{SoFar, at-start, finished, stopped, cut_short, after_write, after_read}
+use Rattle.plots.proofs.SoFar.{SoFar, at-start, at_return, finished, stopped, cut_short, after_write, after_read}
 use Rattle.plots.proofs.run.Invariants.{Kept}
 use Rattle.plots.proofs.run.Goals as goal
 
@@ -79,7 +79,8 @@ overflow_add-at g c = let k = c.loop-f.invariant in record { fits = omega (arith
 pub returns-then-s-clause-all_written : goal.returns-then-s-clause-all_written
 returns-then-s-clause-all_written g c =
     let whole : c.write_all.result ≡ true = search rules in
-    finished _ _ _ _ (written c.loop-f.invariant c.requires.out_size c.feed-f.ensures (g.W.AsRawFd.raw_fd c.loop-f.output) (c.requires.to_standard_output c.loop-f.output) c.write_all.result whole (c.write_all.ensures.whole whole)) c.if-s.true
+    let so_far = written c.loop-f.invariant c.requires.out_size c.feed-f.ensures (g.W.AsRawFd.raw_fd c.loop-f.output) (c.requires.to_standard_output c.loop-f.output) c.write_all.result whole (c.write_all.ensures.whole whole) in
+    finished _ _ _ _ so_far (at_return so_far c.if-s.true)
 
 pub returns-then-not-write_all-clause-front_written : goal.returns-then-not-write_all-clause-front_written
 returns-then-not-write_all-clause-front_written g c =
