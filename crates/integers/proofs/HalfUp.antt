@@ -1,18 +1,18 @@
 -- For every D above 0, N / D rounded half up satisfies document 01's inequality, and no other whole number does.
 -- Existence: the quotient rounded down of 2×N + D and 2×D satisfies it and is no greater in size than N, so the search finds one. Uniqueness is `nearest_unique`.
-use Prim.Native.Nat.{ℕ, zero, suc, ◌+◌, ◌*◌, ◌-◌, ◌/◌, ◌%◌, ◌<◌}
-use mathlib.Core.Path.{◌≡◌, refl, sym, ◌∙◌}
+use Prim.Native.Nat.{ℕ, zero, suc, ◌+◌, ◌*◌, ◌-◌, ◌/◌, ◌<◌}
+use mathlib.Core.Path.{◌≡◌, refl, sym}
 use mathlib.Core.Bool.{Bool, true, false, ◌&&◌, cond}
 use mathlib.Core.List.{List, [], ◌∷◌}
 use native.Mathlib.Omega.{arith}
-use borrow.Author.Tests.{le-ltb}
 use lib.Dec.{T}
 use lib.IntN.{ℤ, pos, neg_ℤ, nat_abs, ◌+ℤ◌, ◌-ℤ◌, ◌*ℤ◌, +ℤ_idr, +ℤ_assoc}
-use lib.Signed.{◌≤ℤ◌, ◌<ℤ◌, le_z, lt_z, quot_z, rem_z}
+use lib.Signed.{◌≤ℤ◌, ◌<ℤ◌, le_z, lt_z}
+use Rattle.std.specs.Int.{int_div_euclid}
 use Rattle.integers.proofs.Ring.{quote}
 use Rattle.integers.proofs.Order.{pp, nn, parts, nat_abs_parts, sum_parts, pp_neg, nn_neg, orders, lt_parts, le_true, lt_true, mul_mono, not_lt}
 use Rattle.integers.proofs.Linear.{≤→, →≤, <→, →<}
-use Rattle.integers.proofs.Floor.{Nearest, floor_z, nearest_is, nearest_unique}
+use Rattle.integers.proofs.Floor.{Nearest, nearest_is, nearest_unique}
 use Rattle.integers.specs.Rounding.{rounds_to, first_rounded, round_half_up}
 
 -- ---- the test and the inequality
@@ -84,7 +84,7 @@ place m k l u =
 pub half_up_holds : (n d : ℤ) → pos 0 <ℤ d → rounds_to n d (round_half_up n d) ≡ true
 unfolding round_half_up
 half_up_holds n d h =
-    let k = floor_z (pos 2 *ℤ n +ℤ d) (pos 2 *ℤ d) in
+    let k = int_div_euclid (pos 2 *ℤ n +ℤ d) (pos 2 *ℤ d) in
     let f : Nearest n d k = nearest_is n d h in
     let m = nat_abs n in
     let p = place m k (at_least n d k (pos m) h f (omega orders) (omega (orders, nat_abs_parts n, pp_neg (pos m), nn_neg (pos m)))) (at_most n d k (pos m) h f (omega orders) (omega (orders, nat_abs_parts n))) in
@@ -116,10 +116,10 @@ half_up_plus n d j h = sym (half_up_only (n +ℤ j *ℤ d) d (round_half_up n d 
 pub half_up_nearest : (n d : ℤ) → pos 0 <ℤ d → Nearest n d (round_half_up n d)
 half_up_nearest n d h = test_nearest (half_up_holds n d h)
 
--- What the code returns: the quotient toward zero of 2×N + D and 2×D, less 1 where the remainder is negative.
-pub rounded_down : (n d : ℤ) → pos 0 <ℤ d → (b : Bool) {z : ℤ} → lt_z (rem_z (pos 2 *ℤ n +ℤ d) (pos 2 *ℤ d)) (pos 0) ≡ b → z ≡ cond b (quot_z (pos 2 *ℤ n +ℤ d) (pos 2 *ℤ d) -ℤ pos 1) (quot_z (pos 2 *ℤ n +ℤ d) (pos 2 *ℤ d)) → z ≡ round_half_up n d
-rounded_down n d h b t e = e ∙ rw (← t) (nearest_half_up n d _ h (nearest_is n d h))
+-- The quotient rounded is that of 2×N + D and 2×D rounded down.
+pub euclid_rounds : (n d : ℤ) → pos 0 <ℤ d → int_div_euclid (pos 2 *ℤ n +ℤ d) (pos 2 *ℤ d) ≡ round_half_up n d
+euclid_rounds n d h = nearest_half_up n d _ h (nearest_is n d h)
 
--- The same of natural numbers: their remainder is not negative.
+-- The same of natural numbers.
 pub half_up_natural : (n d : ℕ) → 0 < d → round_half_up (pos n) (pos d) ≡ pos ((2 * n + d) / (2 * d))
-half_up_natural n d h = sym (rounded_down (pos n) (pos d) (omega orders) false (le-ltb ((2 * n + d) % (2 * d)) 0 (omega arith)) refl)
+half_up_natural n d h = sym (euclid_rounds (pos n) (pos d) (omega orders))

@@ -1,13 +1,2 @@
-// The lesser of two numbers.
+// Whole numbers: rounding by halves up (specs/), and lemmas on integers of bounded size and on sums (proofs/). There is no code here.
 #![tactic(auto)]
-
-ghost use Rattle.std.specs.Prelude.{◌≡◌, min};
-
-pub fn lesser(a: usize, b: usize) -> usize
-    ensures { result ≡ min a b }
-{
-    if a < b {
-        return a;
-    }
-    b
-}
