@@ -30,25 +30,19 @@ const OUTLINE_BOUNDS: Sizes = Sizes {
     yy12: 98_304_000_000_000_000,
 };
 
-// Whether z is greater in size than the bound. Two comparisons: the least i64 has no absolute value.
+// Whether z is greater in size than the bound.
+#[tactic(auto, unfolding(outline::specs::EdgeSums::over))]
 pub fn size_exceeds(z: i64, bound: u64) -> bool
     ensures { result ≡ over bound z }
 {
-    if 9_223_372_036_854_775_807 < bound {
-        return false;
-    }
-    let b = bound as i64;
-    if z < -b {
-        return true;
-    }
-    b < z
+    bound < z.unsigned_abs()
 }
 
 // Whether a coordinate is greater in size than the limit.
 pub fn coordinate_beyond(z: i32, limit: u64) -> bool
     ensures { result ≡ over limit z }
 {
-    size_exceeds(z as i64, limit)
+    size_exceeds(i64::from(z), limit)
 }
 
 // Whether a coordinate is outside -2,000 to 2,000.
@@ -59,26 +53,24 @@ pub fn coordinate_outside(z: i32) -> bool
 }
 
 // Refusal 1: whether one of the two coordinates is outside.
+#[tactic(auto, unfolding(outline::specs::ListCall::beyond))]
 pub fn position_outside(p: Position) -> bool
     ensures { result ≡ outside p }
 {
-    if coordinate_outside(p.x) {
-        return true;
-    }
-    coordinate_outside(p.y)
+    coordinate_outside(p.x) || coordinate_outside(p.y)
 }
 
 // Whether some total is greater in size than its bound.
+#[tactic(auto, unfolding(outline::specs::EdgeSums::exceed))]
 pub fn totals_exceed(t: Totals, bounds: Sizes) -> bool
     ensures { result ≡ exceed bounds t }
 {
-    let a2 = size_exceeds(t.a2, bounds.a2);
-    let x6 = size_exceeds(t.x6, bounds.x6);
-    let y6 = size_exceeds(t.y6, bounds.y6);
-    let xx12 = size_exceeds(t.xx12, bounds.xx12);
-    let xy24 = size_exceeds(t.xy24, bounds.xy24);
-    let yy12 = size_exceeds(t.yy12, bounds.yy12);
-    a2 | x6 | y6 | xx12 | xy24 | yy12
+    size_exceeds(t.a2, bounds.a2)
+        | size_exceeds(t.x6, bounds.x6)
+        | size_exceeds(t.y6, bounds.y6)
+        | size_exceeds(t.xx12, bounds.xx12)
+        | size_exceeds(t.xy24, bounds.xy24)
+        | size_exceeds(t.yy12, bounds.yy12)
 }
 
 // Whether some total is outside the outline bounds.

@@ -1,127 +1,115 @@
-// The answers of the call on a whole list and of the calls of a walk, each with the number of its refusal, and what a call of a walk hands back; and the totals
-// of a refusal, for every call that answers totals.
+// The refusals of the call on a whole list and of the calls of a walk, each with its number, and what a call of a walk hands back; and the totals that an answer tells.
 #![tactic(auto)]
 
 ghost use Rattle.std.specs.Prelude.{◌≡◌};
-ghost use Rattle.outline.specs.EdgeSums.{zeros};
-ghost use Rattle.outline_answers.specs.ListAnswer.{reading as list_reading};
+ghost use Rattle.outline_answers.specs.ListAnswer.{list_number, totals_of};
 ghost use Rattle.outline_answers.specs.WalkAnswers.{begin_number, point_number, entry_number, end_number, abandon_number};
 
 use outline::{Sheet, Totals, Walk, ZEROS};
+use refusals::Refusal;
 
-// The totals of a refusal.
-pub fn no_totals() -> Totals
-    ensures { result ≡ zeros }
+// The totals that an answer tells, zeros with every refusal.
+pub fn totals_of<R: Drop>(answer: Result<Totals, R>) -> Totals
+    ensures { result ≡ totals_of answer }
 {
-    ZEROS
+    answer.unwrap_or(ZEROS)
 }
 
-#[derive(Clone, Copy)]
-pub enum OutlineAnswer {
-    Accepted(Totals),
+// Why the call on a whole list has no totals.
+#[derive(Clone, Copy, Debug, PartialEq, Eq)]
+pub enum OutlineRefusal {
     WrongLength,
     OutsideLimits,
 }
 
-impl OutlineAnswer {
-    // The number of the refusal in document 01, 0 where there is none.
-    pub fn number(self) -> u32
-        ensures { result ≡ (list_reading self).number }
-    {
+impl Refusal for OutlineRefusal {
+    ghost numbered = { list_number };
+
+    fn number(self) -> u32 {
         match self {
-            OutlineAnswer::Accepted(_) => 0,
-            OutlineAnswer::WrongLength => 2,
-            OutlineAnswer::OutsideLimits => 1,
+            OutlineRefusal::WrongLength => 2,
+            OutlineRefusal::OutsideLimits => 1,
         }
     }
 }
 
+// What a call of a walk that leaves the sheet alone hands back: whether it is accepted, and the walk, as it was with every refusal.
 #[derive(Clone, Copy)]
-pub enum BeginAnswer {
-    Accepted,
+pub struct WalkReply<R> {
+    pub answer: Result<(), R>,
+    pub walk: Walk,
+}
+
+#[derive(Clone, Copy, Debug, PartialEq, Eq)]
+pub enum BeginRefusal {
     Impossible,
     AlreadyOpen,
 }
 
-impl BeginAnswer {
-    // The number of the refusal in document 01, 0 where there is none.
-    pub fn number(self) -> u32
-        ensures { result ≡ begin_number self }
-    {
+impl Refusal for BeginRefusal {
+    ghost numbered = { begin_number };
+
+    fn number(self) -> u32 {
         match self {
-            BeginAnswer::Accepted => 0,
-            BeginAnswer::Impossible => 28,
-            BeginAnswer::AlreadyOpen => 22,
+            BeginRefusal::Impossible => 28,
+            BeginRefusal::AlreadyOpen => 22,
         }
     }
 }
 
-#[derive(Clone, Copy)]
-pub struct BeginReply {
-    pub answer: BeginAnswer,
-    pub walk: Walk,
-}
-
-#[derive(Clone, Copy)]
-pub enum AbandonAnswer {
-    Accepted,
+#[derive(Clone, Copy, Debug, PartialEq, Eq)]
+pub enum AbandonRefusal {
     Impossible,
     NotOpen,
 }
 
-impl AbandonAnswer {
-    // The number of the refusal in document 01, 0 where there is none.
-    pub fn number(self) -> u32
-        ensures { result ≡ abandon_number self }
-    {
+impl Refusal for AbandonRefusal {
+    ghost numbered = { abandon_number };
+
+    fn number(self) -> u32 {
         match self {
-            AbandonAnswer::Accepted => 0,
-            AbandonAnswer::Impossible => 28,
-            AbandonAnswer::NotOpen => 21,
+            AbandonRefusal::Impossible => 28,
+            AbandonRefusal::NotOpen => 21,
         }
     }
 }
 
-#[derive(Clone, Copy)]
-pub struct AbandonReply {
-    pub answer: AbandonAnswer,
-    pub walk: Walk,
-}
-
-#[derive(Clone, Copy)]
-pub enum PointAnswer {
-    Accepted,
+#[derive(Clone, Copy, Debug, PartialEq, Eq)]
+pub enum PointRefusal {
     Impossible,
     NotOpen,
     OutsideLimits,
     Full,
 }
 
-impl PointAnswer {
-    // The number of the refusal in document 01, 0 where there is none.
-    pub fn number(self) -> u32
-        ensures { result ≡ point_number self }
-    {
+impl Refusal for PointRefusal {
+    ghost numbered = { point_number };
+
+    fn number(self) -> u32 {
         match self {
-            PointAnswer::Accepted => 0,
-            PointAnswer::Impossible => 28,
-            PointAnswer::NotOpen => 21,
-            PointAnswer::OutsideLimits => 1,
-            PointAnswer::Full => 23,
+            PointRefusal::Impossible => 28,
+            PointRefusal::NotOpen => 21,
+            PointRefusal::OutsideLimits => 1,
+            PointRefusal::Full => 23,
         }
     }
 }
 
-#[derive(Clone, Copy)]
-pub struct PointReply {
-    pub answer: PointAnswer,
-    pub walk: Walk,
+// 28 and 21 refuse every call that needs an open walk.
+impl From<AbandonRefusal> for PointRefusal {
+    ghost from_gives = { λ walk point. point_number point ≡ abandon_number walk };
+
+    fn from(refusal: AbandonRefusal) -> PointRefusal {
+        match refusal {
+            AbandonRefusal::Impossible => PointRefusal::Impossible,
+            AbandonRefusal::NotOpen => PointRefusal::NotOpen,
+        }
+    }
 }
 
-// The answers of an entry of a receiver given to a walk (document 02, CR 9).
-#[derive(Clone, Copy)]
-pub enum EntryAnswer {
-    Accepted,
+// Why an entry of a receiver is not taken (document 02, CR 9).
+#[derive(Clone, Copy, Debug, PartialEq, Eq)]
+pub enum EntryRefusal {
     Impossible,
     NotOpen,
     NotFinite,
@@ -130,33 +118,48 @@ pub enum EntryAnswer {
     Full,
 }
 
-impl EntryAnswer {
-    // The number of the refusal in document 01 or 02, 0 where there is none.
-    pub fn number(self) -> u32
-        ensures { result ≡ entry_number self }
-    {
+impl Refusal for EntryRefusal {
+    ghost numbered = { entry_number };
+
+    fn number(self) -> u32 {
         match self {
-            EntryAnswer::Accepted => 0,
-            EntryAnswer::Impossible => 28,
-            EntryAnswer::NotOpen => 21,
-            EntryAnswer::NotFinite => 33,
-            EntryAnswer::BelowZero => 34,
-            EntryAnswer::OutsideLimits => 1,
-            EntryAnswer::Full => 23,
+            EntryRefusal::Impossible => 28,
+            EntryRefusal::NotOpen => 21,
+            EntryRefusal::NotFinite => 33,
+            EntryRefusal::BelowZero => 34,
+            EntryRefusal::OutsideLimits => 1,
+            EntryRefusal::Full => 23,
         }
     }
 }
 
-#[derive(Clone, Copy)]
-pub struct EntryReply {
-    pub answer: EntryAnswer,
-    pub walk: Walk,
+impl From<AbandonRefusal> for EntryRefusal {
+    ghost from_gives = { λ walk entry. entry_number entry ≡ abandon_number walk };
+
+    fn from(refusal: AbandonRefusal) -> EntryRefusal {
+        match refusal {
+            AbandonRefusal::Impossible => EntryRefusal::Impossible,
+            AbandonRefusal::NotOpen => EntryRefusal::NotOpen,
+        }
+    }
 }
 
-// Where accepted: the totals, and the walk's longest outage.
-#[derive(Clone, Copy)]
-pub enum EndAnswer {
-    Accepted(Totals, f32),
+// The same refusal of a point, told of the fix that gave it.
+impl From<PointRefusal> for EntryRefusal {
+    ghost from_gives = { λ point entry. entry_number entry ≡ point_number point };
+
+    fn from(refusal: PointRefusal) -> EntryRefusal {
+        match refusal {
+            PointRefusal::Impossible => EntryRefusal::Impossible,
+            PointRefusal::NotOpen => EntryRefusal::NotOpen,
+            PointRefusal::OutsideLimits => EntryRefusal::OutsideLimits,
+            PointRefusal::Full => EntryRefusal::Full,
+        }
+    }
+}
+
+#[derive(Clone, Copy, Debug, PartialEq, Eq)]
+pub enum EndRefusal {
     Impossible,
     NotOpen,
     TooFewPoints,
@@ -165,26 +168,42 @@ pub enum EndAnswer {
     SheetExceeded,
 }
 
-impl EndAnswer {
-    // The number of the refusal in document 01, or 02 for a zero area; 0 where there is none.
-    pub fn number(self) -> u32
-        ensures { result ≡ end_number self }
-    {
+impl Refusal for EndRefusal {
+    ghost numbered = { end_number };
+
+    fn number(self) -> u32 {
         match self {
-            EndAnswer::Accepted(_, _) => 0,
-            EndAnswer::Impossible => 28,
-            EndAnswer::NotOpen => 21,
-            EndAnswer::TooFewPoints => 24,
-            EndAnswer::ZeroArea => 32,
-            EndAnswer::SheetFull => 25,
-            EndAnswer::SheetExceeded => 26,
+            EndRefusal::Impossible => 28,
+            EndRefusal::NotOpen => 21,
+            EndRefusal::TooFewPoints => 24,
+            EndRefusal::ZeroArea => 32,
+            EndRefusal::SheetFull => 25,
+            EndRefusal::SheetExceeded => 26,
         }
     }
 }
 
+impl From<AbandonRefusal> for EndRefusal {
+    ghost from_gives = { λ walk end. end_number end ≡ abandon_number walk };
+
+    fn from(refusal: AbandonRefusal) -> EndRefusal {
+        match refusal {
+            AbandonRefusal::Impossible => EndRefusal::Impossible,
+            AbandonRefusal::NotOpen => EndRefusal::NotOpen,
+        }
+    }
+}
+
+// What an accepted end tells: the totals that it adds, and the walk's longest outage.
+#[derive(Clone, Copy)]
+pub struct Ended {
+    pub totals: Totals,
+    pub outage: f32,
+}
+
 #[derive(Clone, Copy)]
 pub struct EndReply {
-    pub answer: EndAnswer,
+    pub answer: Result<Ended, EndRefusal>,
     pub walk: Walk,
     pub sheet: Sheet,
 }

@@ -13,7 +13,7 @@ mod walk;
 
 pub use list::outline_totals;
 use outline::{Position, Totals};
-pub use walk::{end, point};
+pub use walk::{end, point, with_point};
 
 fn first_term(s: i64, t: i64, c: i64) -> i64
     requires s_value { over 2000 s ≡ false }

@@ -6,7 +6,7 @@ ghost use Rattle.outline_answers.specs.ListAnswer.{reading};
 
 use crate::add_edge;
 use outline::{Totals, ZEROS};
-use outline_answers::OutlineAnswer;
+use outline_answers::OutlineRefusal;
 use point_list::{any_outside, position_at, wrong_length};
 
 // The totals of an outline: each edge from one point to the next, and the closing edge.
@@ -17,23 +17,22 @@ fn sum_edges(points: &[i32]) -> Totals
 {
     let n = points.len() / 2;
     let mut sum = ZEROS;
-    let mut k = 1;
-    while k < n {
+    for k in 1..n {
         sum = add_edge(sum, position_at(points, k - 1), position_at(points, k));
-        k += 1;
     }
     add_edge(sum, position_at(points, n - 1), position_at(points, 0))
 }
 
 // Two passes over the caller's own numbers: the limits, then the edges.
-pub fn outline_totals(points: &[i32]) -> OutlineAnswer
+#[tactic(auto, unfolding(outline::specs::ListCall::list_call))]
+pub fn outline_totals(points: &[i32]) -> Result<Totals, OutlineRefusal>
     ensures { reading result ≡ list_call points.now }
 {
     if wrong_length(points) {
-        return OutlineAnswer::WrongLength;
+        return Err(OutlineRefusal::WrongLength);
     }
     if any_outside(points) {
-        return OutlineAnswer::OutsideLimits;
+        return Err(OutlineRefusal::OutsideLimits);
     }
-    OutlineAnswer::Accepted(sum_edges(points))
+    Ok(sum_edges(points))
 }

@@ -1,86 +1,76 @@
 // The calls of a walk that add an edge, by value: each is handed the walk, and end the sheet too, and hands back what it leaves.
-ghost use Rattle.std.specs.Prelude.{◌≡◌, true, false, ◌<◌, ◌≤◌};
+ghost use Rattle.std.specs.Prelude.{◌≡◌, false, ◌<◌, ◌≤◌};
 ghost use Rattle.outline.specs.EdgeSums.{negated, exceed};
 ghost use Rattle.outline.specs.ListCall.{outside};
 ghost use Rattle.outline.specs.MapCall.{total_limits};
-ghost use Rattle.outline.specs.WalkCalls.{extended, closed_totals, has_sign, turned, zero_area, impossible_walk, impossible_sheet, point_call, end_call};
+ghost use Rattle.outline.specs.WalkCalls.{extended, closed_totals, has_sign, turned, point_call, end_call};
 ghost use Rattle.outline_answers.specs.WalkAnswers.{point_reading, end_reading};
+ghost use Rattle.walk_state.specs.Replies.{replied};
+ghost use Rattle.outline_calls.specs.private.Ended.{end_replied};
 
 use crate::{add, add_edge};
 use limits::{outside_limits, position_outside};
 use outline::{Kind, Position, Sheet, Totals, Walk};
-use outline_answers::{EndAnswer, EndReply, PointAnswer, PointReply};
-use walk_state::{impossible_sheet, impossible_walk, new_walk, open_walk};
+use outline_answers::{EndRefusal, EndReply, Ended, PointRefusal, WalkReply};
+use walk_state::{OpenWalk, impossible_sheet, new_walk, opened, reply};
 
 // The walk with one point more. Its kind and its longest outage stay.
-fn extended_walk(w: Walk, p: Position) -> Walk
-    requires w_value { impossible_walk w ≡ false }
-    requires is_open_value { w.is_open ≡ true }
-    requires count_bound { w.count < 1024 }
+#[tactic(auto, using(crate::proofs::WalkTotals::open_totals_within, crate::proofs::WalkTotals::open_last_inside), unfolding(outline::specs::WalkCalls::extended))]
+fn extended(walking: OpenWalk, p: Position) -> Walk
+    requires count_bound { walking.walk.count < 1024 }
     requires p_value { outside p ≡ false }
-    ensures { result ≡ extended w p }
+    ensures { result ≡ extended walking.walk p }
 {
-    let kind = w.kind;
-    let totals = w.totals;
-    let outage = w.outage;
+    let w = walking.walk;
     if w.count == 0 {
-        return open_walk(kind, 1, p, p, totals, outage);
+        return Walk {
+            count: 1,
+            first: p,
+            last: p,
+            ..w
+        };
     }
-    let first = w.first;
-    let last = w.last;
-    let sum = add_edge(totals, last, p);
-    open_walk(kind, w.count + 1, first, p, sum, outage)
+    Walk {
+        count: w.count + 1,
+        last: p,
+        totals: add_edge(w.totals, w.last, p),
+        ..w
+    }
 }
 
-pub fn point(w: Walk, x: i32, y: i32) -> PointReply
-    ensures { point_reading result ≡ point_call w (record { x = x; y = y }) }
+// The walk that a point leaves.
+#[tactic(auto, unfolding(outline::specs::WalkCalls::point_call))]
+pub fn with_point(w: Walk, p: Position) -> Result<Walk, PointRefusal>
+    ensures { point_reading (replied w result) ≡ point_call w p }
 {
-    if impossible_walk(w) {
-        return PointReply {
-            answer: PointAnswer::Impossible,
-            walk: w,
-        };
-    }
-    if !w.is_open {
-        return PointReply {
-            answer: PointAnswer::NotOpen,
-            walk: w,
-        };
-    }
-    let p = Position { x, y };
+    let walking = opened(w)?;
     if position_outside(p) {
-        return PointReply {
-            answer: PointAnswer::OutsideLimits,
-            walk: w,
-        };
+        return Err(PointRefusal::OutsideLimits);
     }
     if 1024 <= w.count {
-        return PointReply {
-            answer: PointAnswer::Full,
-            walk: w,
-        };
+        return Err(PointRefusal::Full);
     }
-    let extended = extended_walk(w, p);
-    PointReply {
-        answer: PointAnswer::Accepted,
-        walk: extended,
-    }
+    Ok(extended(walking, p))
+}
+
+pub fn point(w: Walk, x: i32, y: i32) -> WalkReply<PointRefusal>
+    ensures { point_reading result ≡ point_call w (record { x = x; y = y }) }
+{
+    reply(w, with_point(w, Position { x, y }))
 }
 
 // The walk's totals with the closing edge.
-fn closed_totals(w: Walk) -> Totals
-    requires w_value { impossible_walk w ≡ false }
-    requires is_open_value { w.is_open ≡ true }
-    requires le_count { 3 ≤ w.count }
-    ensures { result ≡ closed_totals w }
+#[tactic(auto, using(crate::proofs::WalkTotals::open_totals_within, crate::proofs::WalkTotals::open_last_inside, crate::proofs::WalkTotals::open_first_inside))]
+fn closed_totals(walking: OpenWalk) -> Totals
+    requires { 3 ≤ walking.walk.count }
+    ensures { result ≡ closed_totals walking.walk }
 {
-    let totals = w.totals;
-    let last = w.last;
-    let first = w.first;
-    add_edge(totals, last, first)
+    let w = walking.walk;
+    add_edge(w.totals, w.last, w.first)
 }
 
 // Whether A2 has the sign that the kind has.
+#[tactic(auto, unfolding(outline::specs::WalkCalls::has_sign))]
 fn has_sign(kind: Kind, a2: i64) -> bool
     ensures { result ≡ has_sign kind a2 }
 {
@@ -95,91 +85,77 @@ fn negate(t: Totals) -> Totals
     requires { exceed total_limits t ≡ false }
     ensures { result ≡ negated t }
 {
-    let a2 = t.a2;
-    let x6 = t.x6;
-    let y6 = t.y6;
-    let xx12 = t.xx12;
-    let xy24 = t.xy24;
-    let yy12 = t.yy12;
     Totals {
-        a2: -a2,
-        x6: -x6,
-        y6: -y6,
-        xx12: -xx12,
-        xy24: -xy24,
-        yy12: -yy12,
+        a2: -t.a2,
+        x6: -t.x6,
+        y6: -t.y6,
+        xx12: -t.xx12,
+        xy24: -t.xy24,
+        yy12: -t.yy12,
     }
 }
 
 // The totals of a ring as added.
+#[tactic(auto, unfolding(outline::specs::WalkCalls::turned))]
 fn turn(kind: Kind, ring: Totals) -> Totals
     requires { exceed total_limits ring ≡ false }
     ensures { result ≡ turned kind ring }
 {
     if has_sign(kind, ring.a2) {
-        return ring;
-    }
-    negate(ring)
-}
-
-fn refused_end(answer: EndAnswer, held: Walk, sheet: Sheet) -> EndReply
-    ensures { result ≡ record { answer = answer; walk = held; sheet = sheet } }
-{
-    EndReply {
-        answer,
-        walk: held,
-        sheet,
+        ring
+    } else {
+        negate(ring)
     }
 }
 
-// Adds the ring of a walk to the sheet, by the walk's kind, or refuses with 26.
-fn add_to_sheet(w: Walk, ring: Totals, s: Sheet) -> EndReply
-    requires w_value { impossible_walk w ≡ false }
-    requires s_value { impossible_sheet s ≡ false }
-    requires is_open_value { w.is_open ≡ true }
-    requires le_count { 3 ≤ w.count }
-    requires w_value_2 { zero_area (closed_totals w) ≡ false }
-    requires count_bound { s.count < 64 }
-    requires ring_value { ring ≡ closed_totals w }
-    ensures { end_reading result ≡ end_call w s }
+// What an accepted end tells, and the sheet that it leaves.
+#[tactic(auto, unfolding(outline::specs::WalkCalls::end_call))]
+fn ended(w: Walk, s: Sheet) -> Result<(Ended, Sheet), EndRefusal>
+    ensures { end_reading (end_replied w s result) ≡ end_call w s }
 {
-    let kind = w.kind;
-    let added = turn(kind, ring);
-    let earlier = s.totals;
-    let sums = add(earlier, added);
+    if impossible_sheet(s) {
+        return Err(EndRefusal::Impossible);
+    }
+    let walking = opened(w)?;
+    if w.count < 3 {
+        return Err(EndRefusal::TooFewPoints);
+    }
+    let ring = closed_totals(walking);
+    if ring.a2 == 0 {
+        return Err(EndRefusal::ZeroArea);
+    }
+    if 64 <= s.count {
+        return Err(EndRefusal::SheetFull);
+    }
+    let added = turn(w.kind, ring);
+    let sums = add(s.totals, added);
     if outside_limits(sums) {
-        return refused_end(EndAnswer::SheetExceeded, w, s);
+        return Err(EndRefusal::SheetExceeded);
     }
-    let walk = new_walk();
+    let told = Ended {
+        totals: added,
+        outage: w.outage,
+    };
     let sheet = Sheet {
         count: s.count + 1,
         totals: sums,
     };
-    EndReply {
-        answer: EndAnswer::Accepted(added, w.outage),
-        walk,
-        sheet,
-    }
+    Ok((told, sheet))
 }
 
 pub fn end(w: Walk, s: Sheet) -> EndReply
     ensures { end_reading result ≡ end_call w s }
 {
-    if impossible_walk(w) | impossible_sheet(s) {
-        return refused_end(EndAnswer::Impossible, w, s);
+    match ended(w, s) {
+        Ok((told, sheet)) => EndReply {
+            answer: Ok(told),
+            walk: new_walk(),
+            sheet,
+        },
+        Err(refusal) => EndReply {
+            answer: Err(refusal),
+            walk: w,
+            sheet: s,
+        },
     }
-    if !w.is_open {
-        return refused_end(EndAnswer::NotOpen, w, s);
-    }
-    if w.count < 3 {
-        return refused_end(EndAnswer::TooFewPoints, w, s);
-    }
-    let ring = closed_totals(w);
-    if ring.a2 == 0 {
-        return refused_end(EndAnswer::ZeroArea, w, s);
-    }
-    if 64 <= s.count {
-        return refused_end(EndAnswer::SheetFull, w, s);
-    }
-    add_to_sheet(w, ring, s)
 }

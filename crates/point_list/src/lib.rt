@@ -9,21 +9,16 @@ use limits::coordinate_beyond;
 use outline::{ORIGIN, Position};
 
 // Refusal 2.
+#[tactic(auto, using(crate::proofs::Pairs::length_by_numbers))]
 pub fn wrong_length(points: &[i32]) -> bool
     ensures { result ≡ wrong_length points.now }
 {
-    let n = points.len();
-    if n % 2 == 1 {
-        return true;
-    }
-    let count = n / 2;
-    if count < 3 {
-        return true;
-    }
-    1024 < count
+    let count = points.len() / 2;
+    points.len() % 2 == 1 || count < 3 || 1024 < count
 }
 
 // Point k of the list; the origin where it has fewer points.
+#[tactic(auto, using(crate::proofs::Pairs::point_by_numbers, crate::proofs::Pairs::no_point))]
 pub fn position_at(points: &[i32], k: usize) -> Position
     ensures { result ≡ get_or (points_of points.now) k origin }
 {
@@ -40,12 +35,10 @@ pub fn position_at(points: &[i32], k: usize) -> Position
 pub fn any_beyond(points: &[i32], limit: u64) -> bool
     ensures { result ≡ any_beyond limit (points_of points.now) }
 {
-    let n = points.len() / 2 * 2;
+    let paired = points.len() / 2 * 2;
     let mut found = false;
-    let mut i = 0;
-    while i < n {
-        found = found | coordinate_beyond(points[i], limit);
-        i += 1;
+    for z in &points[..paired] {
+        found = found | coordinate_beyond(*z, limit);
     }
     found
 }

@@ -6,8 +6,9 @@ use borrow.Author.Tests.{ne_eqb}
 use lib.Dec.{T, leb, eqb}
 use lib.Ieee.{Float, nan, inf, fin, binary32, odd, ne, is_nan, fits, of_fields, of_bits, to_bits}
 use lib.Ieee.Bits.{of_bits-to_bits}
-use lib.Ieee.Compare.{differs_from_itself, nan_differs}
+use lib.Ieee.Compare.{nan_differs}
 use lib.Ieee.Exact.{HasValue, odd_sign}
+use Rattle.std.specs.Float.{float_is_finite}
 use Rattle.receiver.specs.Floats.{not_finite}
 
 -- ---- the fields
@@ -31,10 +32,12 @@ by_fields x h = sym (of_bits-to_bits binary32 x (subst T (sym h) tt))
 
 -- ---- not a number, and infinite
 
--- What differs from itself is no number, and 33 refuses it.
-pub differing : (x : Float) → ne x x ≡ true → not_finite x ≡ true
-unfolding not_finite
-differing x h = ap not_finite (differs_from_itself x (subst T (sym h) tt))
+-- What 33 refuses is what the library's test does not let through.
+pub by_library : (x : Float) → not (float_is_finite x) ≡ not_finite x
+unfolding float_is_finite not_finite
+by_library nan = refl
+by_library (inf s) = refl
+by_library (fin s m e) = refl
 
 -- What does not differ from itself has bits of its own.
 pub has_bits : (x : Float) → ne x x ≡ false → T (not (is_nan x))

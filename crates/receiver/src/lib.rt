@@ -18,13 +18,11 @@ pub enum Entry {
     Outage(f32),
 }
 
+#[tactic(auto, using(crate::proofs::Fields::by_library))]
 pub fn not_finite(f: f32) -> bool
     ensures { result ≡ not_finite f }
 {
-    if f != f {
-        return true;
-    }
-    f32::to_bits(f) % 0x8000_0000 / 0x80_0000 == 255
+    !f.is_finite()
 }
 
 pub fn below_zero(f: f32) -> bool

@@ -14,7 +14,7 @@ fn exceeds_share(t: Totals, points: u32) -> bool
     requires { points ≤ 1024 }
     ensures { result ≡ exceed (share points) t }
 {
-    let n = points as u64;
+    let n = u64::from(points);
     let b = Sizes {
         a2: n * 8_000_000,
         x6: n * 32_000_000_000,
@@ -30,15 +30,7 @@ fn exceeds_share(t: Totals, points: u32) -> bool
 fn ends_outside(w: Walk) -> bool
     ensures { result ≡ (not (eqb w.count 0) && (outside w.first || outside w.last)) }
 {
-    if w.count == 0 {
-        return false;
-    }
-    let first = w.first;
-    if position_outside(first) {
-        return true;
-    }
-    let last = w.last;
-    position_outside(last)
+    w.count != 0 && (position_outside(w.first) || position_outside(w.last))
 }
 
 // Refusals 33 and 34 of the longest outage.
@@ -48,31 +40,20 @@ fn outage_refused(seconds: f32) -> bool
     not_finite(seconds) | below_zero(seconds)
 }
 
+#[tactic(auto, unfolding(outline::specs::WalkCalls::impossible_walk))]
 pub fn impossible_walk(w: Walk) -> bool
     ensures { result ≡ impossible_walk w }
 {
-    if !w.is_open {
-        return false;
-    }
-    if 1024 < w.count {
-        return true;
-    }
-    if ends_outside(w) {
-        return true;
-    }
-    let t = w.totals;
-    if exceeds_share(t, w.count) {
-        return true;
-    }
-    outage_refused(w.outage)
+    w.is_open
+        && (1024 < w.count
+            || ends_outside(w)
+            || exceeds_share(w.totals, w.count)
+            || outage_refused(w.outage))
 }
 
+#[tactic(auto, unfolding(outline::specs::WalkCalls::impossible_sheet))]
 pub fn impossible_sheet(s: Sheet) -> bool
     ensures { result ≡ impossible_sheet s }
 {
-    if 64 < s.count {
-        return true;
-    }
-    let t = s.totals;
-    outside_limits(t)
+    64 < s.count || outside_limits(s.totals)
 }

@@ -2,14 +2,17 @@
 #![tactic(auto)]
 
 mod handed_in;
+mod walking;
 
 ghost use Rattle.std.specs.Prelude.{◌≡◌};
 ghost use Rattle.outline.specs.WalkCalls.{open_walk, closed, new_sheet, begin_call, abandon_call};
 ghost use Rattle.outline_answers.specs.WalkAnswers.{begin_reading, abandon_reading};
+ghost use Rattle.walk_state.specs.Replies.{asked, as_walk, replied};
 
 pub use handed_in::{impossible_sheet, impossible_walk};
 use outline::{Kind, ORIGIN, Position, Sheet, Totals, Walk, ZEROS};
-use outline_answers::{AbandonAnswer, AbandonReply, BeginAnswer, BeginReply};
+use outline_answers::{AbandonRefusal, BeginRefusal, WalkReply};
+pub use walking::OpenWalk;
 
 const CLOSED: Walk = Walk {
     is_open: false,
@@ -21,7 +24,7 @@ const CLOSED: Walk = Walk {
     outage: 0.0,
 };
 
-// Every open walk is made here.
+// An open walk of these parts. What adds to one keeps its other fields.
 pub fn open_walk(
     kind: Kind,
     count: u32,
@@ -59,46 +62,57 @@ pub fn new_sheet() -> Sheet
     }
 }
 
-pub fn begin(w: Walk, kind: Kind) -> BeginReply
-    ensures { begin_reading result ≡ begin_call w kind }
+// The walk to go on with.
+pub fn opened(w: Walk) -> Result<OpenWalk, AbandonRefusal>
+    ensures { as_walk result ≡ asked w }
 {
     if impossible_walk(w) {
-        return BeginReply {
-            answer: BeginAnswer::Impossible,
-            walk: w,
-        };
+        return Err(AbandonRefusal::Impossible);
     }
-    if w.is_open {
-        return BeginReply {
-            answer: BeginAnswer::AlreadyOpen,
-            walk: w,
-        };
+    if !w.is_open {
+        return Err(AbandonRefusal::NotOpen);
     }
-    let opened = open_walk(kind, 0, ORIGIN, ORIGIN, ZEROS, 0.0);
-    BeginReply {
-        answer: BeginAnswer::Accepted,
-        walk: opened,
+    Ok(OpenWalk { walk: w })
+}
+
+// What a call hands back: the walk that it leaves, or with a refusal the one handed in.
+pub fn reply<R: Drop>(held: Walk, left: Result<Walk, R>) -> WalkReply<R>
+    ensures { result ≡ replied held left }
+{
+    match left {
+        Ok(walk) => WalkReply {
+            answer: Ok(()),
+            walk,
+        },
+        Err(refusal) => WalkReply {
+            answer: Err(refusal),
+            walk: held,
+        },
     }
 }
 
-pub fn abandon(w: Walk) -> AbandonReply
-    ensures { abandon_reading result ≡ abandon_call w }
+#[tactic(auto, unfolding(outline::specs::WalkCalls::begin_call))]
+fn begun(w: Walk, kind: Kind) -> Result<Walk, BeginRefusal>
+    ensures { begin_reading (replied w result) ≡ begin_call w kind }
 {
     if impossible_walk(w) {
-        return AbandonReply {
-            answer: AbandonAnswer::Impossible,
-            walk: w,
-        };
+        return Err(BeginRefusal::Impossible);
     }
-    if !w.is_open {
-        return AbandonReply {
-            answer: AbandonAnswer::NotOpen,
-            walk: w,
-        };
+    if w.is_open {
+        return Err(BeginRefusal::AlreadyOpen);
     }
-    let walk = new_walk();
-    AbandonReply {
-        answer: AbandonAnswer::Accepted,
-        walk,
-    }
+    Ok(open_walk(kind, 0, ORIGIN, ORIGIN, ZEROS, 0.0))
+}
+
+pub fn begin(w: Walk, kind: Kind) -> WalkReply<BeginRefusal>
+    ensures { begin_reading result ≡ begin_call w kind }
+{
+    reply(w, begun(w, kind))
+}
+
+#[tactic(auto, unfolding(outline::specs::WalkCalls::abandon_call))]
+pub fn abandon(w: Walk) -> WalkReply<AbandonRefusal>
+    ensures { abandon_reading result ≡ abandon_call w }
+{
+    reply(w, opened(w).map(|_| new_walk()))
 }
