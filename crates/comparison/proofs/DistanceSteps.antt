@@ -1,6 +1,5 @@
 -- What the code on distances computes with 32-bit numbers, as the definition's natural numbers.
 use mathlib.Core.Path.{◌≡◌, refl, sym, ap, ap₂, ◌∙◌}
-use mathlib.Core.Bool.{cond}
 use mathlib.Core.List.{List, map}
 use Prim.Native.Nat.{ℕ, ◌+◌, ◌*◌, ◌<◌, min, max}
 use native.Mathlib.Omega.{arith}
@@ -8,10 +7,7 @@ use borrow.Author.Tests.{ltb-true, ltb-false}
 use lib.Dec.{ltb}
 use lib.IntN.{ℤ, pos, negsuc, nat_abs, ◌+ℤ◌, ◌-ℤ◌, ◌*ℤ◌}
 use lib.ListN.{length, get_or, take}
-use lib.Signed.{lt_z}
-use mir.Facts.{to_z-of_z}
-use mir.Syntax.{w32}
-use mir.Val.{SFits, to_z, of_z}
+use Rattle.std.specs.Int.{int_min, int_max}
 use Rattle.integers.proofs.Cases.{by_cond}
 use Rattle.outline.specs.declared.Position.{Position}
 use Rattle.outline.specs.WalkCalls.{origin}
@@ -27,20 +23,16 @@ pub distance_is : (p q : Position) → (p.x -ℤ q.x) *ℤ (p.x -ℤ q.x) +ℤ (
 unfolding squared_distance
 distance_is p q = ap₂ (λ a b. a +ℤ b) (square-size (p.x -ℤ q.x)) (square-size (p.y -ℤ q.y))
 
--- The code's test of two numbers is the test of the numbers.
-pub test_is : {a b : ℤ} → SFits w32 a → SFits w32 b → lt_z (to_z w32 (of_z w32 a)) (to_z w32 (of_z w32 b)) ≡ lt_z a b
-test_is f g = ap₂ lt_z (to_z-of_z f) (to_z-of_z g)
-
--- The lesser and the greater of two natural numbers, by the signed test.
-lesser_is : {a b : ℤ} (m n : ℕ) → a ≡ pos m → b ≡ pos n → cond (lt_z a b) a b ≡ pos (min m n)
+-- The lesser and the greater of two natural numbers, as the library compares them signed.
+lesser_is : {a b : ℤ} (m n : ℕ) → a ≡ pos m → b ≡ pos n → int_min a b ≡ pos (min m n)
 lesser_is m n e f =
-    ap₂ (λ a b. cond (lt_z a b) a b) e f
-    ∙ by_cond (λ z. z ≡ pos (min m n)) (ltb m n) (λ t. ap pos (omega (arith, ltb-true m n t))) (λ t. ap pos (omega (arith, ltb-false m n t)))
+    ap₂ int_min e f
+    ∙ by_cond (λ z. z ≡ pos (min m n)) (ltb n m) (λ t. ap pos (omega (arith, ltb-true n m t))) (λ t. ap pos (omega (arith, ltb-false n m t)))
 
-greater_is : {a b : ℤ} (m n : ℕ) → a ≡ pos m → b ≡ pos n → cond (lt_z a b) b a ≡ pos (max m n)
+greater_is : {a b : ℤ} (m n : ℕ) → a ≡ pos m → b ≡ pos n → int_max a b ≡ pos (max m n)
 greater_is m n e f =
-    ap₂ (λ a b. cond (lt_z a b) b a) e f
-    ∙ by_cond (λ z. z ≡ pos (max m n)) (ltb m n) (λ t. ap pos (omega (arith, ltb-true m n t))) (λ t. ap pos (omega (arith, ltb-false m n t)))
+    ap₂ int_max e f
+    ∙ by_cond (λ z. z ≡ pos (max m n)) (ltb n m) (λ t. ap pos (omega (arith, ltb-true n m t))) (λ t. ap pos (omega (arith, ltb-false n m t)))
 
 -- ---- one point after another
 
@@ -49,14 +41,14 @@ pub nearest-first : (ps : List Position) (p : Position) {q : Position} {r : ℤ}
 nearest-first ps p h e f = rw (f, e) (ap pos (sym (least_first (squared_distance p) ps origin h)))
 
 -- and the least of those to the points before and of that to point k.
-pub nearest-next : (ps : List Position) (p : Position) (k : ℕ) {q : Position} {a b r : ℤ} → 0 < k → k < length ps → q ≡ get_or ps k origin → a ≡ pos (least_of (map (squared_distance p) (take k ps))) → b ≡ pos (squared_distance p q) → r ≡ cond (lt_z a b) a b → r ≡ pos (least_of (map (squared_distance p) (take (k + 1) ps)))
+pub nearest-next : (ps : List Position) (p : Position) (k : ℕ) {q : Position} {a b r : ℤ} → 0 < k → k < length ps → q ≡ get_or ps k origin → a ≡ pos (least_of (map (squared_distance p) (take k ps))) → b ≡ pos (squared_distance p q) → r ≡ int_min a b → r ≡ pos (least_of (map (squared_distance p) (take (k + 1) ps)))
 nearest-next ps p k {q} h l e f g r =
     r
     ∙ lesser_is (least_of (map (squared_distance p) (take k ps))) (squared_distance p q) f g
     ∙ rw e (ap pos (sym (least_next (squared_distance p) ps k origin h l)))
 
 -- Of the points before and of point k, the greatest of the distances that f gives.
-pub farthest-next : (f : Position → ℕ) (ps : List Position) (k : ℕ) {p : Position} {a b r : ℤ} → k < length ps → p ≡ get_or ps k origin → a ≡ pos (greatest_of (map f (take k ps))) → b ≡ pos (f p) → r ≡ cond (lt_z a b) b a → r ≡ pos (greatest_of (map f (take (k + 1) ps)))
+pub farthest-next : (f : Position → ℕ) (ps : List Position) (k : ℕ) {p : Position} {a b r : ℤ} → k < length ps → p ≡ get_or ps k origin → a ≡ pos (greatest_of (map f (take k ps))) → b ≡ pos (f p) → r ≡ int_max a b → r ≡ pos (greatest_of (map f (take (k + 1) ps)))
 farthest-next f ps k {p} l e g h r =
     r
     ∙ greater_is (greatest_of (map f (take k ps))) (f p) g h

@@ -1,14 +1,12 @@
 // The figures of a comparison: the call on a whole list answers for each walk, the first before the second.
 ghost use Rattle.std.specs.Prelude.{◌≡◌, false};
 ghost use Rattle.outline.specs.EdgeSums.{exceed, outline_bounds};
-ghost use Rattle.outline.specs.ListCall.{accepted, list_call};
 ghost use Rattle.two_walks.specs.Comparison.{minus, figures_call};
 ghost use Rattle.comparison.specs.Answer.{reading};
 
-use crate::FiguresAnswer;
-use crate::distances::squared_hausdorff;
+use crate::distances::AcceptedWalk;
 use outline::Totals;
-use outline_answers::OutlineAnswer;
+use outline_answers::OutlineRefusal;
 use outline_calls::outline_totals;
 use two_walks::Figures;
 
@@ -28,28 +26,17 @@ fn subtract(s: Totals, t: Totals) -> Totals
     }
 }
 
-// The answer where the first walk is accepted, with the totals s.
-fn answer_by_second(s: Totals, first: &[i32], second: &[i32]) -> FiguresAnswer
-    requires { list_call first.now ≡ accepted s }
+// Each walk by the call on a whole list, so the first is refused before the second.
+pub fn walk_figures(first: &[i32], second: &[i32]) -> Result<Figures, OutlineRefusal>
     ensures { reading result ≡ figures_call first.now second.now }
 {
-    match outline_totals(second) {
-        OutlineAnswer::Accepted(t) => FiguresAnswer::Compared(Figures {
-            differences: subtract(s, t),
-            forward: squared_hausdorff(first, second),
-            backward: squared_hausdorff(second, first),
-        }),
-        OutlineAnswer::WrongLength => FiguresAnswer::WrongLength,
-        OutlineAnswer::OutsideLimits => FiguresAnswer::OutsideLimits,
-    }
-}
-
-pub fn walk_figures(first: &[i32], second: &[i32]) -> FiguresAnswer
-    ensures { reading result ≡ figures_call first.now second.now }
-{
-    match outline_totals(first) {
-        OutlineAnswer::Accepted(s) => answer_by_second(s, first, second),
-        OutlineAnswer::WrongLength => FiguresAnswer::WrongLength,
-        OutlineAnswer::OutsideLimits => FiguresAnswer::OutsideLimits,
-    }
+    let s = outline_totals(first)?;
+    let t = outline_totals(second)?;
+    let first = AcceptedWalk { points: first };
+    let second = AcceptedWalk { points: second };
+    Ok(Figures {
+        differences: subtract(s, t),
+        forward: first.squared_hausdorff(second),
+        backward: second.squared_hausdorff(first),
+    })
 }

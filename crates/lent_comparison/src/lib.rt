@@ -5,19 +5,23 @@ ghost use Rattle.std.specs.Prelude.{◌≡◌};
 ghost use Rattle.two_walks.specs.Comparison.{lent, comparison_call};
 ghost use Rattle.lent_comparison.specs.WholeAnswer.{whole_reading};
 
-use comparison::{FiguresAnswer, walk_figures};
+use comparison::walk_figures;
 use longer_list::longer_walk;
+use outline_answers::OutlineRefusal;
+use two_walks::Figures;
 
 #[derive(Clone, Copy)]
 pub struct Comparison<'a> {
-    pub answer: FiguresAnswer,
+    pub answer: Result<Figures, OutlineRefusal>,
     pub longer: &'a [i32],
 }
 
+#[tactic(auto, unfolding(two_walks::specs::Comparison::comparison_call))]
 pub fn compare_walks<'a>(first: &'a [i32], second: &'a [i32]) -> Comparison<'a>
     ensures { whole_reading result ≡ comparison_call (lent first.entry) (lent second.entry) }
 {
-    let answer = walk_figures(first, second);
-    let longer = longer_walk(first, second);
-    Comparison { answer, longer }
+    Comparison {
+        answer: walk_figures(first, second),
+        longer: longer_walk(first, second),
+    }
 }

@@ -3,29 +3,30 @@ use mathlib.Core.Path.{◌≡◌, refl, sym, ◌∙◌, ap}
 use mathlib.Core.Bool.{cond}
 use mathlib.Core.List.{[], ◌∷◌, map}
 use lib.Dec.{eqb}
+use Rattle.std.specs.Prelude.{Result, Ok, Err}
 use Rattle.third_order.specs.declared.ThirdTotals.{ThirdTotals}
 use Rattle.third_order.specs.ThirdCall.{ThirdOutcome}
-use Rattle.third_moments.specs.declared.ThirdAnswer.{ThirdAnswer}
-use Rattle.third_moments.specs.declared.ThirdAnswer.TheVariants.{Accepted, WrongLength, OutsideLimits, TooFarForThirdMoments}
-use Rattle.third_moments.specs.ThirdAnswers.{reading}
+use Rattle.third_moments.specs.declared.ThirdRefusal.{ThirdRefusal}
+use Rattle.third_moments.specs.declared.ThirdRefusal.TheVariants.{WrongLength, OutsideLimits, TooFarForThirdMoments}
+use Rattle.third_moments.specs.ThirdAnswers.{third_number, reading}
 
-abbrev answer_of : ThirdOutcome → ThirdAnswer
-answer_of r = cond (eqb r.number 2) WrongLength (cond (eqb r.number 1) OutsideLimits (cond (eqb r.number 35) TooFarForThirdMoments (Accepted r.totals)))
+abbrev answer_of : ThirdOutcome → Result ThirdTotals ThirdRefusal
+answer_of r = cond (eqb r.number 2) (Err WrongLength) (cond (eqb r.number 1) (Err OutsideLimits) (cond (eqb r.number 35) (Err TooFarForThirdMoments) (Ok r.totals)))
 
-answer_back : (a : ThirdAnswer) → answer_of (reading a) ≡ a
-answer_back (Accepted t) = refl
-answer_back WrongLength = refl
-answer_back OutsideLimits = refl
-answer_back TooFarForThirdMoments = refl
+answer_back : (a : Result ThirdTotals ThirdRefusal) → answer_of (reading a) ≡ a
+answer_back (Ok t) = refl
+answer_back (Err WrongLength) = refl
+answer_back (Err OutsideLimits) = refl
+answer_back (Err TooFarForThirdMoments) = refl
 
-pub reading_one_to_one : (a b : ThirdAnswer) → reading a ≡ reading b → a ≡ b
+pub reading_one_to_one : (a b : Result ThirdTotals ThirdRefusal) → reading a ≡ reading b → a ≡ b
 reading_one_to_one a b e = sym (answer_back a) ∙ ap answer_of e ∙ answer_back b
 
 -- ---- the numbers by the names of the answers
 
 record Numbered : Type 0 where
-  accepted : (t : ThirdTotals) → (reading (Accepted t)).number ≡ 0
-  refused : map (λ a. (reading a).number) (OutsideLimits ∷ WrongLength ∷ TooFarForThirdMoments ∷ []) ≡ 1 ∷ 2 ∷ 35 ∷ []
+  accepted : (t : ThirdTotals) → (reading (Ok t)).number ≡ 0
+  refused : map third_number (OutsideLimits ∷ WrongLength ∷ TooFarForThirdMoments ∷ []) ≡ 1 ∷ 2 ∷ 35 ∷ []
 
 numbered : Numbered
 numbered = record { accepted = λ t. refl; refused = refl }

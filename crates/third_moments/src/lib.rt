@@ -2,69 +2,49 @@
 #![tactic(auto)]
 
 ghost use Rattle.std.specs.Prelude.{◌≡◌};
-ghost use Rattle.third_order.specs.ThirdTerms.{no_thirds};
 ghost use Rattle.third_order.specs.ThirdCall.{third_call};
-ghost use Rattle.third_moments.specs.ThirdAnswers.{reading};
+ghost use Rattle.third_moments.specs.ThirdAnswers.{third_number, reading};
 
 mod sums;
 
 use point_list::{any_beyond, any_outside, wrong_length};
+use refusals::Refusal;
 use sums::sum_edges;
-use third_order::{NO_THIRDS, ThirdTotals};
+use third_order::ThirdTotals;
 
-#[derive(Clone, Copy)]
-pub enum ThirdAnswer {
-    Accepted(ThirdTotals),
+// Why the call for third moments has no totals.
+#[derive(Clone, Copy, Debug, PartialEq, Eq)]
+pub enum ThirdRefusal {
     WrongLength,
     OutsideLimits,
     TooFarForThirdMoments,
 }
 
-// The totals of a refusal.
-fn no_thirds() -> ThirdTotals
-    ensures { result ≡ no_thirds }
-{
-    NO_THIRDS
-}
+impl Refusal for ThirdRefusal {
+    ghost numbered = { third_number };
 
-impl ThirdAnswer {
-    // The number of the refusal in documents 01 and 02, 0 where there is none.
-    pub fn number(self) -> u32
-        ensures { result ≡ (reading self).number }
-    {
+    fn number(self) -> u32 {
         match self {
-            ThirdAnswer::Accepted(_) => 0,
-            ThirdAnswer::WrongLength => 2,
-            ThirdAnswer::OutsideLimits => 1,
-            ThirdAnswer::TooFarForThirdMoments => 35,
-        }
-    }
-
-    // The four totals, zeros with every refusal.
-    pub fn totals(self) -> ThirdTotals
-        ensures { result ≡ (reading self).totals }
-    {
-        match self {
-            ThirdAnswer::Accepted(totals) => totals,
-            ThirdAnswer::WrongLength => no_thirds(),
-            ThirdAnswer::OutsideLimits => no_thirds(),
-            ThirdAnswer::TooFarForThirdMoments => no_thirds(),
+            ThirdRefusal::WrongLength => 2,
+            ThirdRefusal::OutsideLimits => 1,
+            ThirdRefusal::TooFarForThirdMoments => 35,
         }
     }
 }
 
 // Passes over the caller's own numbers: the limits, one after the other, then the edges.
-pub fn third_moments(points: &[i32]) -> ThirdAnswer
+#[tactic(auto, unfolding(third_order::specs::ThirdCall::third_call))]
+pub fn third_moments(points: &[i32]) -> Result<ThirdTotals, ThirdRefusal>
     ensures { reading result ≡ third_call points.now }
 {
     if wrong_length(points) {
-        return ThirdAnswer::WrongLength;
+        return Err(ThirdRefusal::WrongLength);
     }
     if any_outside(points) {
-        return ThirdAnswer::OutsideLimits;
+        return Err(ThirdRefusal::OutsideLimits);
     }
     if any_beyond(points, 500) {
-        return ThirdAnswer::TooFarForThirdMoments;
+        return Err(ThirdRefusal::TooFarForThirdMoments);
     }
-    ThirdAnswer::Accepted(sum_edges(points))
+    Ok(sum_edges(points))
 }

@@ -9,29 +9,32 @@ use outline::Position;
 use point_list::position_at;
 use third_order::{NO_THIRDS, ThirdTotals};
 
-// The sum with c times the bracket for x³ added; for y³, of y and q.
-fn plus_cubic(sum: i64, x: i64, p: i64, c: i64) -> i64
-    requires sum_value { over 256000000000000000 sum ≡ false }
-    requires x_value { over 500 x ≡ false }
-    requires p_value { over 500 p ≡ false }
-    requires c_value { over 500000 c ≡ false }
-    ensures { result ≡ sum +ℤ c *ℤ cubic x p }
-{
-    sum + c * ((x + p) * (x * x + p * p))
+// Where an edge begins and ends along one axis, within the limit of third moments.
+#[derive(Clone, Copy)]
+struct Span {
+    from: i64,
+    to: i64,
+    ghost from_inside: { over 500 from ≡ false },
+    ghost to_inside: { over 500 to ≡ false },
 }
 
-// The sum with c times the bracket for x²y added; for xy², with x and y, and p and q, in each other's place.
-fn plus_mixed(sum: i64, x: i64, y: i64, p: i64, q: i64, c: i64) -> i64
-    requires sum_value { over 768000000000000000 sum ≡ false }
-    requires x_value { over 500 x ≡ false }
-    requires y_value { over 500 y ≡ false }
-    requires p_value { over 500 p ≡ false }
-    requires q_value { over 500 q ≡ false }
+// The sum with c times the bracket for x³ added; for y³, of the span along y.
+fn plus_cubic(sum: i64, x: Span, c: i64) -> i64
+    requires sum_value { over 256000000000000000 sum ≡ false }
     requires c_value { over 500000 c ≡ false }
-    ensures { result ≡ sum +ℤ c *ℤ mixed x y p q }
+    ensures { result ≡ sum +ℤ c *ℤ cubic x.from x.to }
 {
-    let s = x + p;
-    sum + c * (s * s * (y + q) + 2 * (x * x * y + p * p * q))
+    sum + c * ((x.from + x.to) * (x.from * x.from + x.to * x.to))
+}
+
+// The sum with c times the bracket for x²y added; for xy², with the two spans in each other's place.
+fn plus_mixed(sum: i64, x: Span, y: Span, c: i64) -> i64
+    requires sum_value { over 768000000000000000 sum ≡ false }
+    requires c_value { over 500000 c ≡ false }
+    ensures { result ≡ sum +ℤ c *ℤ mixed x.from y.from x.to y.to }
+{
+    let s = x.from + x.to;
+    sum + c * (s * s * (y.from + y.to) + 2 * (x.from * x.from * y.from + x.to * x.to * y.to))
 }
 
 // The four sums with the edge from a to b added.
@@ -41,31 +44,33 @@ fn add_edge(sum: ThirdTotals, a: Position, b: Position) -> ThirdTotals
     requires b_value { beyond 500 b ≡ false }
     ensures { result ≡ plus_thirds sum (four (λ t. t a b)) }
 {
-    let x = a.x as i64;
-    let y = a.y as i64;
-    let p = b.x as i64;
-    let q = b.y as i64;
-    let c = x * q - p * y;
+    let x = Span {
+        from: a.x as i64,
+        to: b.x as i64,
+    };
+    let y = Span {
+        from: a.y as i64,
+        to: b.y as i64,
+    };
+    let c = x.from * y.to - x.to * y.from;
     ThirdTotals {
-        xxx20: plus_cubic(sum.xxx20, x, p, c),
-        xxy60: plus_mixed(sum.xxy60, x, y, p, q, c),
-        xyy60: plus_mixed(sum.xyy60, y, x, q, p, c),
-        yyy20: plus_cubic(sum.yyy20, y, q, c),
+        xxx20: plus_cubic(sum.xxx20, x, c),
+        xxy60: plus_mixed(sum.xxy60, x, y, c),
+        xyy60: plus_mixed(sum.xyy60, y, x, c),
+        yyy20: plus_cubic(sum.yyy20, y, c),
     }
 }
 
 // The totals of an outline: each edge from one point to the next, and the closing edge.
 pub(crate) fn sum_edges(points: &[i32]) -> ThirdTotals
-    requires points_value { wrong_length points.now ≡ false }
-    requires points_value_2 { any_beyond 500 (points_of points.now) ≡ false }
+    requires length_value { wrong_length points.now ≡ false }
+    requires limit_value { any_beyond 500 (points_of points.now) ≡ false }
     ensures { result ≡ third_totals (points_of points.now) }
 {
     let n = points.len() / 2;
     let mut sum = NO_THIRDS;
-    let mut k = 1;
-    while k < n {
+    for k in 1..n {
         sum = add_edge(sum, position_at(points, k - 1), position_at(points, k));
-        k += 1;
     }
     add_edge(sum, position_at(points, n - 1), position_at(points, 0))
 }

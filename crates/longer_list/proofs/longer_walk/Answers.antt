@@ -1,8 +1,8 @@
--- `longer_list::longer_walk` meets its contract: a refusal hands back the empty start of the first list; else the numbers of points decide.
+-- `longer_list::longer_walk` meets its contract: where neither list is refused, the numbers of points decide.
 use mathlib.Core.Path.{◌≡◌}
 use mathlib.Core.Bool.{true}
 use native.Mathlib.Omega.{arith}
-use borrow.Author.Tests.{lt-ltb, le-ltb, not-true, not-false}
+use borrow.Author.Tests.{lt-ltb, le-ltb, not-false}
 use lib.Dec.{eqb}
 use lib.ListN.{length}
 use Rattle.integers.proofs.Flags.{tells}
@@ -11,12 +11,6 @@ use Rattle.outline.proofs.IndexLaws.{length-points}
 use Rattle.two_walks.specs.Comparison.{comparison_number, part_of, handed_back}
 use Rattle.longer_list.proofs.longer_walk.Goals as goal
 
--- Either list is refused.
-pub returns-then-either_refused : goal.returns-then-either_refused
-unfolding part_of handed_back
-returns-then-either_refused c = rw (not-true _ (tells c.either_refused.ensures c.if-either_refused.true))
-
--- Neither is: how many points each has.
 pub returns-then-first-second : goal.returns-then-first-second
 unfolding part_of handed_back
 returns-then-first-second c =
@@ -25,9 +19,9 @@ returns-then-first-second c =
     let good : eqb (comparison_number zs ws) 0 ≡ true = not-false _ (tells c.either_refused.ensures c.if-either_refused.false) in
     rw (good, lt-ltb (length (points zs)) (length (points ws)) (omega (arith, length-points zs, length-points ws)))
 
-pub returns : goal.returns
+pub returns-else-first-second : goal.returns-else-first-second
 unfolding part_of handed_back
-returns c =
+returns-else-first-second c =
     let zs = c.args.first.now in
     let ws = c.args.second.now in
     let good : eqb (comparison_number zs ws) 0 ≡ true = not-false _ (tells c.either_refused.ensures c.if-either_refused.false) in

@@ -1,56 +1,60 @@
 -- `third_moments::sums::plus_mixed` meets its contract: each step fits 64 bits, a computed test, and the factored bracket is the bracket.
-use mathlib.Core.Path.{◌∙◌}
+use mathlib.Core.Path.{◌≡◌, ◌∙◌}
+use mathlib.Core.Bool.{false}
 use mathlib.Core.List.{List, [], ◌∷◌}
+use lib.IntN.{ℤ}
 use Rattle.integers.proofs.Ring.{ring, quote}
 use Rattle.integers.proofs.SignedCode.{code}
 use Rattle.integers.proofs.SizedNumbers.{Sized, numbers, fits, is_plain}
+use Rattle.outline.specs.EdgeSums.{over}
 use Rattle.outline.proofs.Limits.{tested}
-use Rattle.third_moments.proofs.sums.plus_mixed.Goals.{Start}
+use Rattle.third_moments.specs.declared.sums.Span.{Span}
 use Rattle.third_moments.proofs.sums.plus_mixed.Goals as goal
 
-abbrev operands : Start → List Sized
-operands s =
-    let small = s.requires in
-    tested 768000000000000000 s.args.sum small.sum_value ∷ tested 500 s.args.x small.x_value ∷ tested 500 s.args.y small.y_value ∷ tested 500 s.args.p small.p_value ∷ tested 500 s.args.q small.q_value ∷ tested 500000 s.args.c small.c_value ∷ []
+abbrev operands : (sum : ℤ) → Span → Span → (c : ℤ) → over 768000000000000000 sum ≡ false → over 500000 c ≡ false → List Sized
+operands sum x y c sum_small c_small =
+    tested 768000000000000000 sum sum_small ∷ tested 500 x.from x.from_inside ∷ tested 500 y.from y.from_inside ∷ tested 500 x.to x.to_inside ∷ tested 500 y.to y.to_inside ∷ tested 500000 c c_small ∷ []
 
 pub overflow_add-s : goal.overflow_add-s
-overflow_add-s s = fits (operands s) (search code depth 40) tt
+overflow_add-s c = fits (operands c.args.sum c.args.x c.args.y c.args.c c.requires.sum_value c.requires.c_value) (search code depth 40) tt
 
 pub overflow_mul-result : goal.overflow_mul-result
-overflow_mul-result s = fits (operands s) (search code depth 40) tt
+overflow_mul-result c = fits (operands c.args.sum c.args.x c.args.y c.args.c c.requires.sum_value c.requires.c_value) (search code depth 40) tt
 
 pub overflow_add-result : goal.overflow_add-result
-overflow_add-result s = fits (operands s) (search code depth 40) tt
+overflow_add-result c = fits (operands c.args.sum c.args.x c.args.y c.args.c c.requires.sum_value c.requires.c_value) (search code depth 40) tt
 
 pub overflow_mul-result-2 : goal.overflow_mul-result-2
-overflow_mul-result-2 s = fits (operands s) (search code depth 40) tt
+overflow_mul-result-2 c = fits (operands c.args.sum c.args.x c.args.y c.args.c c.requires.sum_value c.requires.c_value) (search code depth 40) tt
 
 pub overflow_mul-result-3 : goal.overflow_mul-result-3
-overflow_mul-result-3 s = fits (operands s) (search code depth 40) tt
+overflow_mul-result-3 c = fits (operands c.args.sum c.args.x c.args.y c.args.c c.requires.sum_value c.requires.c_value) (search code depth 40) tt
 
 pub overflow_mul-result-4 : goal.overflow_mul-result-4
-overflow_mul-result-4 s = fits (operands s) (search code depth 40) tt
+overflow_mul-result-4 c = fits (operands c.args.sum c.args.x c.args.y c.args.c c.requires.sum_value c.requires.c_value) (search code depth 40) tt
 
 pub overflow_mul-result-5 : goal.overflow_mul-result-5
-overflow_mul-result-5 s = fits (operands s) (search code depth 40) tt
+overflow_mul-result-5 c = fits (operands c.args.sum c.args.x c.args.y c.args.c c.requires.sum_value c.requires.c_value) (search code depth 40) tt
 
 pub overflow_mul-result-6 : goal.overflow_mul-result-6
-overflow_mul-result-6 s = fits (operands s) (search code depth 40) tt
+overflow_mul-result-6 c = fits (operands c.args.sum c.args.x c.args.y c.args.c c.requires.sum_value c.requires.c_value) (search code depth 40) tt
 
 pub overflow_add-result-2 : goal.overflow_add-result-2
-overflow_add-result-2 s = fits (operands s) (search code depth 40) tt
+overflow_add-result-2 c = fits (operands c.args.sum c.args.x c.args.y c.args.c c.requires.sum_value c.requires.c_value) (search code depth 40) tt
 
 pub overflow_mul-result-7 : goal.overflow_mul-result-7
-overflow_mul-result-7 s = fits (operands s) (search code depth 40) tt
+overflow_mul-result-7 c = fits (operands c.args.sum c.args.x c.args.y c.args.c c.requires.sum_value c.requires.c_value) (search code depth 40) tt
 
 pub overflow_add-result-3 : goal.overflow_add-result-3
-overflow_add-result-3 s = fits (operands s) (search code depth 40) tt
+overflow_add-result-3 c = fits (operands c.args.sum c.args.x c.args.y c.args.c c.requires.sum_value c.requires.c_value) (search code depth 40) tt
 
 pub overflow_mul-result-8 : goal.overflow_mul-result-8
-overflow_mul-result-8 s = fits (operands s) (search code depth 60 fits 20000) tt
+overflow_mul-result-8 c = fits (operands c.args.sum c.args.x c.args.y c.args.c c.requires.sum_value c.requires.c_value) (search code depth 60 fits 20000) tt
 
 pub overflow_add-result-4 : goal.overflow_add-result-4
-overflow_add-result-4 s = fits (operands s) (search code depth 60 fits 20000) tt
+overflow_add-result-4 c = fits (operands c.args.sum c.args.x c.args.y c.args.c c.requires.sum_value c.requires.c_value) (search code depth 60 fits 20000) tt
 
 pub returns : goal.returns
-returns s = is_plain (operands s) (search code depth 60 fits 20000) tt ∙ ring (numbers (operands s)) (search quote depth 20) (search quote depth 20) tt
+returns c =
+    let l = operands c.args.sum c.args.x c.args.y c.args.c c.requires.sum_value c.requires.c_value in
+    is_plain l (search code depth 60 fits 20000) tt ∙ ring (numbers l) (search quote depth 20) (search quote depth 20) tt

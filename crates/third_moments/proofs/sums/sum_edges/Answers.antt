@@ -24,11 +24,8 @@ sum_small ps {k = k} o s = rw s.is (small_open ps k o s.most)
 pub loop-k-init : goal.loop-k-init
 loop-k-init c =
     let zs = c.args.points.now in
-    let o : SmallOutline (points_of zs) = small_list zs c.requires.points_value c.requires.points_value_2 in
+    let o : SmallOutline (points_of zs) = small_list zs c.requires.length_value c.requires.limit_value in
     summed_first four plus_thirds (λ f g. refl) (points_of zs) (omega (arith, o.enough))
-
-pub overflow_sub-k : goal.overflow_sub-k
-overflow_sub-k c = omega (arith, c.loop-k.invariant.some)
 
 pub add_edge-sum-requires : goal.add_edge-sum-requires
 add_edge-sum-requires c =
@@ -37,9 +34,9 @@ add_edge-sum-requires c =
     let at = c.loop-k in
     let few = length-points zs in
     record {
-      small_thirds = sum_small ps (small_list zs c.requires.points_value c.requires.points_value_2) at.invariant;
-      a_value = point_inside 500 ps (at.k - 1) c.requires.points_value_2 (omega arith) c.position_at.ensures;
-      b_value = point_inside 500 ps at.k c.requires.points_value_2 (omega arith) c.position_at-in-loop-k.ensures;
+      small_thirds = sum_small ps (small_list zs c.requires.length_value c.requires.limit_value) at.invariant;
+      a_value = point_inside 500 ps (at.k - 1) c.requires.limit_value (omega arith) c.position_at.ensures;
+      b_value = point_inside 500 ps at.k c.requires.limit_value (omega arith) c.position_at-in-loop-k.ensures;
     }
 
 pub loop-k-preserved : goal.loop-k-preserved
@@ -52,7 +49,7 @@ loop-k-preserved c =
 pub overflow_sub-n : goal.overflow_sub-n
 overflow_sub-n c =
     let zs = c.args.points.now in
-    let o : SmallOutline (points_of zs) = small_list zs c.requires.points_value c.requires.points_value_2 in
+    let o : SmallOutline (points_of zs) = small_list zs c.requires.length_value c.requires.limit_value in
     omega (arith, o.enough, length-points zs)
 
 -- All points are walked, so the point that is read again is the last of them.
@@ -64,12 +61,12 @@ add_edge-requires c =
     let zs = c.args.points.now in
     let ps = points_of zs in
     let at = c.loop-k in
-    let o : SmallOutline ps = small_list zs c.requires.points_value c.requires.points_value_2 in
+    let o : SmallOutline ps = small_list zs c.requires.length_value c.requires.limit_value in
     let whole : at.k ≡ length ps = omega (arith, at.invariant.most, length-points zs) in
     record {
       small_thirds = sum_small ps o at.invariant;
-      a_value = point_inside 500 ps (at.k - 1) c.requires.points_value_2 (omega (arith, at.invariant.most, at.invariant.some)) (last_is zs at.k whole c.position_at-2.ensures);
-      b_value = point_inside 500 ps 0 c.requires.points_value_2 (omega (arith, o.enough)) c.position_at-3.ensures;
+      a_value = point_inside 500 ps (at.k - 1) c.requires.limit_value (omega (arith, at.invariant.most, at.invariant.some)) (last_is zs at.k whole c.position_at-2.ensures);
+      b_value = point_inside 500 ps 0 c.requires.limit_value (omega (arith, o.enough)) c.position_at-3.ensures;
     }
 
 pub returns : goal.returns

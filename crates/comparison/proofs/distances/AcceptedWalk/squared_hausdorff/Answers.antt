@@ -16,7 +16,7 @@ use Rattle.outline.proofs.IndexLaws.{length-points}
 use Rattle.outline.proofs.Limits.{point_inside}
 use Rattle.two_walks.specs.Distances.{greatest_of, to_nearest, squared_hausdorff}
 use Rattle.comparison.proofs.DistanceSteps.{farthest-next}
-use Rattle.comparison.proofs.distances.squared_hausdorff.Goals as goal
+use Rattle.comparison.proofs.distances.AcceptedWalk.squared_hausdorff.Goals as goal
 
 pub loop-k-init : goal.loop-k-init
 unfolding greatest_of
@@ -24,19 +24,19 @@ loop-k-init c = record { is = refl; most = omega arith }
 
 pub to_nearest-requires : goal.to_nearest-requires
 to_nearest-requires c =
-    let ps = points_of c.args.from.now in
-    record { nonzero = c.requires.nonzero; points_value = c.requires.to_value; p_value = point_inside 2000 ps c.loop-k.k c.requires.from_value (omega (arith, length-points c.args.from.now)) c.position_at.ensures }
+    let ps = points_of c.args.self.points.now in
+    point_inside 2000 ps c.loop-k.k c.args.self.inside (omega (arith, length-points c.args.self.points.now)) c.position_at.ensures
 
 pub loop-k-preserved : goal.loop-k-preserved
 loop-k-preserved c =
-    let ps = points_of c.args.from.now in
-    let qs = points_of c.args.to.now in
+    let ps = points_of c.args.self.points.now in
+    let qs = points_of c.args.other.points.now in
     let at = c.loop-k in
-    let few = length-points c.args.from.now in
+    let few = length-points c.args.self.points.now in
     let passed : to_z w32 (of_z w32 c.to_nearest.result) ≡ c.to_nearest.result = search rules in
-    let back : to_z w32 (of_z w32 c.greater-greatest.result) ≡ c.greater-greatest.result = search rules in
+    let back : to_z w32 (of_z w32 c.max-greatest.result) ≡ c.max-greatest.result = search rules in
     record {
-      is = back ∙ farthest-next (to_nearest qs) ps at.k (omega arith) c.position_at.ensures at.invariant.is (passed ∙ c.to_nearest.ensures) c.greater-greatest.ensures;
+      is = back ∙ farthest-next (to_nearest qs) ps at.k (omega arith) c.position_at.ensures at.invariant.is (passed ∙ c.to_nearest.ensures) c.max-greatest.ensures.value;
       most = omega arith;
     }
 
@@ -49,7 +49,7 @@ overflow_cast-result c =
 pub returns : goal.returns
 unfolding squared_hausdorff
 returns c =
-    let ps = points_of c.args.from.now in
+    let ps = points_of c.args.self.points.now in
     let at = c.loop-k in
-    let whole : at.k ≡ length ps = omega (arith, at.invariant.most, length-points c.args.from.now) in
+    let whole : at.k ≡ length ps = omega (arith, at.invariant.most, length-points c.args.self.points.now) in
     ap nat_abs at.invariant.is ∙ rw (whole, take-length ps)

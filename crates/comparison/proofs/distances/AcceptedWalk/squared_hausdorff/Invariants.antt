@@ -1,13 +1,13 @@
--- `comparison::distances::squared_hausdorff` meets its contract. The invariant: the greatest of what the first k points have to the nearest is held.
+-- `comparison::distances::AcceptedWalk::squared_hausdorff` meets its contract. The invariant: the greatest of what the first k points have to the nearest is held.
 use mathlib.Core.Path.{◌≡◌}
 use mathlib.Core.List.{List, map}
-use Prim.Native.Nat.{ℕ, ◌-◌, ◌≤◌}
+use Prim.Native.Nat.{ℕ, ◌≤◌}
 use lib.IntN.{ℤ, pos}
 use lib.ListN.{length, take}
 use Rattle.outline.specs.declared.Position.{Position}
 use Rattle.outline.specs.ListCall.{points as points_of}
 use Rattle.two_walks.specs.Distances.{greatest_of, to_nearest}
-use Rattle.comparison.proofs.distances.squared_hausdorff.Given as goal
+use Rattle.comparison.proofs.distances.AcceptedWalk.squared_hausdorff.Given as goal
 
 -- Of the points ps, the first k are looked at.
 pub record LookedAt (ps qs : List Position) (greatest : ℤ) (k : ℕ) : Type 0 where
@@ -15,7 +15,4 @@ pub record LookedAt (ps qs : List Position) (greatest : ℤ) (k : ℕ) : Type 0 
   pub most : k ≤ length ps
 
 abbrev pub invariant-loop-k : goal.invariant-loop-k
-invariant-loop-k l = LookedAt (points_of l.from) (points_of l.to) l.greatest l.k
-
-abbrev pub decreases-loop-k : goal.decreases-loop-k
-decreases-loop-k l = l.n - l.k
+invariant-loop-k l = LookedAt (points_of l.self.points.now) (points_of l.other.points.now) l.greatest l.k
