@@ -2,6 +2,7 @@
 use mathlib.Core.Path.{◌≡◌, refl, sym, ◌∙◌, ap}
 use mathlib.Core.Bool.{Bool, true, false, cond}
 use borrow.Author.Tests.{eqb-false}
+use Rattle.std.specs.Prelude.{Ok, Err}
 use Rattle.receiver.specs.declared.Fix.{Fix}
 use Rattle.outline.specs.declared.Position.{Position}
 use Rattle.outline.specs.declared.Walk.{Walk}
@@ -10,6 +11,9 @@ use Rattle.outline.specs.FixCall.{FixOutcome, fix_point, fix_not_finite, no_poin
 use Rattle.outline.specs.WalkCalls.{impossible_walk, refused_walk, point_call}
 use Rattle.outline.specs.EntryCalls.{fix_call}
 use Rattle.outline.proofs.EntryLaws.{finite-fix, infinite_fix}
+use Rattle.fixes.specs.declared.FixRefusal.{FixRefusal}
+use Rattle.fixes.specs.declared.FixRefusal.TheVariants.{NotFinite, OutsideLimits}
+use Rattle.fixes.specs.FixAnswers.{fix_number, reading}
 
 -- The tests of the call on a fix, by its answer.
 data FixCase (f : Fix) : FixOutcome → Type 0 where
@@ -27,30 +31,25 @@ fix_case f = go (fix_not_finite f) (outside (fix_point f)) refl refl
     go false false ea eb = within ea
 
 module _ (w : Walk) (f : Fix) (possible : impossible_walk w ≡ false) (is_open : w.is_open ≡ true) where
-  pub answered_33 : no_point 33 ≡ fix_point_call f → refused_walk 33 w ≡ fix_call w f
-  answered_33 e = go (fix_point_call f) (fix_case f) (ap (λ r. r.number) (sym e))
-    where
-      go : (r : FixOutcome) → FixCase f r → r.number ≡ 33 → refused_walk 33 w ≡ fix_call w f
-      go r (not_finite_lem h) n = sym (infinite_fix w f possible is_open h)
-      go r (too_far h k) n = absurd (eqb-false 1 33 refl n)
-      go r (within h) n = absurd (eqb-false 0 33 refl n)
-
-  far-point : (p : Position) → outside p ≡ true → point_call w p ≡ refused_walk 1 w
+  far_point : (p : Position) → outside p ≡ true → point_call w p ≡ refused_walk 1 w
   unfolding point_call
-  far-point p h = rw (possible, is_open, h) refl
+  far_point p h = rw (possible, is_open, h) refl
 
-  pub answered_1 : no_point 1 ≡ fix_point_call f → refused_walk 1 w ≡ fix_call w f
-  answered_1 e = go (fix_point_call f) (fix_case f) (ap (λ r. r.number) (sym e))
+  pub fix_refused : (r : FixRefusal) → reading (Err r) ≡ fix_point_call f → refused_walk (fix_number r) w ≡ fix_call w f
+  fix_refused r e = go r (fix_point_call f) (fix_case f) (ap (λ o. o.number) (sym e))
     where
-      go : (r : FixOutcome) → FixCase f r → r.number ≡ 1 → refused_walk 1 w ≡ fix_call w f
-      go r (not_finite_lem h) n = absurd (eqb-false 33 1 refl n)
-      go r (too_far h k) n = sym (finite-fix w f h ∙ far-point (fix_point f) k)
-      go r (within h) n = absurd (eqb-false 0 1 refl n)
+      go : (r : FixRefusal) (o : FixOutcome) → FixCase f o → o.number ≡ fix_number r → refused_walk (fix_number r) w ≡ fix_call w f
+      go NotFinite o (not_finite_lem h) n = sym (infinite_fix w f possible is_open h)
+      go NotFinite o (too_far h k) n = absurd (eqb-false 1 33 refl n)
+      go NotFinite o (within h) n = absurd (eqb-false 0 33 refl n)
+      go OutsideLimits o (not_finite_lem h) n = absurd (eqb-false 33 1 refl n)
+      go OutsideLimits o (too_far h k) n = sym (finite-fix w f h ∙ far_point (fix_point f) k)
+      go OutsideLimits o (within h) n = absurd (eqb-false 0 1 refl n)
 
-  pub answered-at : (p : Position) → record { number = 0; point = p } ≡ fix_point_call f → point_call w p ≡ fix_call w f
-  answered-at p e = go (fix_point_call f) (fix_case f) (sym e)
+  pub fix_accepted : (p : Position) → reading (Ok p) ≡ fix_point_call f → point_call w p ≡ fix_call w f
+  fix_accepted p e = go (fix_point_call f) (fix_case f) (sym e)
     where
-      go : (r : FixOutcome) → FixCase f r → r ≡ record { number = 0; point = p } → point_call w p ≡ fix_call w f
-      go r (not_finite_lem h) n = absurd (eqb-false 33 0 refl (ap (λ r. r.number) n))
-      go r (too_far h k) n = absurd (eqb-false 1 0 refl (ap (λ r. r.number) n))
-      go r (within h) n = ap (λ r. point_call w r.point) (sym n) ∙ sym (finite-fix w f h)
+      go : (o : FixOutcome) → FixCase f o → o ≡ record { number = 0; point = p } → point_call w p ≡ fix_call w f
+      go o (not_finite_lem h) n = absurd (eqb-false 33 0 refl (ap (λ o. o.number) n))
+      go o (too_far h k) n = absurd (eqb-false 1 0 refl (ap (λ o. o.number) n))
+      go o (within h) n = ap (λ o. point_call w o.point) (sym n) ∙ sym (finite-fix w f h)

@@ -1,5 +1,4 @@
 mod Quotients
 mod BySize
 mod CoordinateLaws
-mod PointCases
 pub mod ReadingLaw

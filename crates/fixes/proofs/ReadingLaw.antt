@@ -1,21 +1,22 @@
--- The reading of an answer is one to one, so the promise of this crate leaves one answer only. By cases: the numbers 0, 33 and 1 differ.
-use mathlib.Core.Path.{◌≡◌, refl, ap}
-use native.Mathlib.Omega.{arith}
-use Rattle.outline.specs.FixCall.{FixOutcome}
-use Rattle.fixes.specs.declared.FixAnswer.{FixAnswer}
-use Rattle.fixes.specs.declared.FixAnswer.TheVariants.{At, NotFinite, OutsideLimits}
+-- The reading of an answer is one to one, so the promise of this crate leaves one answer only: it follows from its number and its point.
+use mathlib.Core.Path.{◌≡◌, refl, sym, ◌∙◌, ap}
+use mathlib.Core.Bool.{cond}
+use Prim.Native.Nat.{ℕ}
+use lib.Dec.{eqb}
+use Rattle.std.specs.Prelude.{Result, Ok, Err}
+use Rattle.refusals.proofs.AnswerLaws.{answer_of}
+use Rattle.outline.specs.declared.Position.{Position}
+use Rattle.fixes.specs.declared.FixRefusal.{FixRefusal}
+use Rattle.fixes.specs.declared.FixRefusal.TheVariants.{NotFinite, OutsideLimits}
 use Rattle.fixes.specs.FixAnswers.{reading}
 
-number_of : {r q : FixOutcome} → r ≡ q → r.number ≡ q.number
-number_of e = ap (λ (r : FixOutcome). r.number) e
+abbrev fix_of : ℕ → Position → Result Position FixRefusal
+fix_of n p = answer_of (λ m. cond (eqb m 33) NotFinite OutsideLimits) n p
 
-pub reading_one_to_one : (a b : FixAnswer) → reading a ≡ reading b → a ≡ b
-reading_one_to_one (At p) (At q) e = ap At (ap (λ (r : FixOutcome). r.point) e)
-reading_one_to_one NotFinite NotFinite e = refl
-reading_one_to_one OutsideLimits OutsideLimits e = refl
-reading_one_to_one (At p) NotFinite e = absurd (omega (arith, number_of e))
-reading_one_to_one (At p) OutsideLimits e = absurd (omega (arith, number_of e))
-reading_one_to_one NotFinite (At q) e = absurd (omega (arith, number_of e))
-reading_one_to_one NotFinite OutsideLimits e = absurd (omega (arith, number_of e))
-reading_one_to_one OutsideLimits (At q) e = absurd (omega (arith, number_of e))
-reading_one_to_one OutsideLimits NotFinite e = absurd (omega (arith, number_of e))
+fix_back : (a : Result Position FixRefusal) → fix_of (reading a).number (reading a).point ≡ a
+fix_back (Ok p) = refl
+fix_back (Err NotFinite) = refl
+fix_back (Err OutsideLimits) = refl
+
+pub reading_one_to_one : (a b : Result Position FixRefusal) → reading a ≡ reading b → a ≡ b
+reading_one_to_one a b e = sym (fix_back a) ∙ ap (λ o. fix_of o.number o.point) e ∙ fix_back b
