@@ -1,34 +1,33 @@
 // The map call on six totals: document 01, "Maps", with refusals 3, 4 and 5.
 #![tactic(auto)]
 
-ghost use Rattle.std.specs.Prelude.{◌≡◌, ◌+ℤ◌, ◌*ℤ◌};
+ghost use Rattle.std.specs.Prelude.{◌≡◌, ◌+ℤ◌, ◌*ℤ◌, cond};
 ghost use Rattle.outline.specs.EdgeSums.{over, exceed, outline_bounds};
 ghost use Rattle.outline.specs.private.Fit.{Fit};
 ghost use Rattle.outline.specs.MapCall.{disallowed, determinant, first_moment, second_moment, mixed_moment, brackets, scaled, total_limit, total_limits, map_call};
-ghost use Rattle.affine.specs.Answer.{reading};
+ghost use Rattle.affine.specs.Answer.{map_number, reading};
 ghost use Rattle.affine.specs.private.Limits.{AtMost, RowWithin, MapWithin};
 
 use limits::{TOTAL_LIMIT, size_exceeds};
+use outline::{AffineMap, Totals};
+use refusals::Refusal;
 
-// The mapped totals; or refusal 3, 4 or 5, in this order.
-#[derive(Clone, Copy)]
-pub enum MapAnswer {
-    Mapped(outline::Totals),
+// Why totals are not mapped: a number of the map is outside its limits, a total is outside the outline bounds, or a mapped one is outside its limits.
+#[derive(Clone, Copy, Debug, PartialEq, Eq)]
+pub enum MapRefusal {
     MapOutsideLimits,
     TotalsOutsideBounds,
     ResultOutsideLimits,
 }
 
-impl MapAnswer {
-    // The number of the refusal in document 01, 0 where there is none.
-    pub fn number(self) -> u32
-        ensures { result ≡ (reading self).number }
-    {
+impl Refusal for MapRefusal {
+    ghost numbered = { map_number };
+
+    fn number(self) -> u32 {
         match self {
-            MapAnswer::Mapped(_) => 0,
-            MapAnswer::MapOutsideLimits => 3,
-            MapAnswer::TotalsOutsideBounds => 4,
-            MapAnswer::ResultOutsideLimits => 5,
+            MapRefusal::MapOutsideLimits => 3,
+            MapRefusal::TotalsOutsideBounds => 4,
+            MapRefusal::ResultOutsideLimits => 5,
         }
     }
 }
@@ -39,7 +38,7 @@ const COEFFICIENT_LIMIT: u64 = 2;
 const SHIFT_LIMIT: u64 = 2000;
 
 // Refusal 3. All six tests are made and joined by `|`, so the code has one way through and no branch.
-fn map_outside_limits(m: outline::AffineMap) -> bool
+fn map_outside_limits(m: AffineMap) -> bool
     ensures { result ≡ disallowed m }
 {
     size_exceeds(m.a as i64, COEFFICIENT_LIMIT)
@@ -50,7 +49,7 @@ fn map_outside_limits(m: outline::AffineMap) -> bool
         | size_exceeds(m.f as i64, SHIFT_LIMIT)
 }
 
-fn map_determinant(m: outline::AffineMap) -> i64
+fn map_determinant(m: AffineMap) -> i64
     requires { MapWithin m }
     ensures { result ≡ determinant m }
 {
@@ -58,7 +57,7 @@ fn map_determinant(m: outline::AffineMap) -> i64
 }
 
 // The bracket of X6 with a, b, e, and of Y6 with g, h, f.
-fn first_moment(a: i64, b: i64, e: i64, t: outline::Totals) -> i64
+fn first_moment(a: i64, b: i64, e: i64, t: Totals) -> i64
     requires row_within { RowWithin a b e }
     requires fit { Fit outline_bounds t }
     ensures { result ≡ first_moment a b e t }
@@ -67,7 +66,7 @@ fn first_moment(a: i64, b: i64, e: i64, t: outline::Totals) -> i64
 }
 
 // The totals added up, each with a weight: at most 5.64·10^18 in size.
-fn weighted(xx12: i64, yy12: i64, xy24: i64, x6: i64, y6: i64, a2: i64, t: outline::Totals) -> i64
+fn weighted(xx12: i64, yy12: i64, xy24: i64, x6: i64, y6: i64, a2: i64, t: Totals) -> i64
     requires at_most { AtMost 8 xx12 }
     requires at_most_2 { AtMost 8 yy12 }
     requires at_most_3 { AtMost 8 xy24 }
@@ -81,7 +80,7 @@ fn weighted(xx12: i64, yy12: i64, xy24: i64, x6: i64, y6: i64, a2: i64, t: outli
 }
 
 // The bracket of XX12 with a, b, e, and of YY12 with g, h, f.
-fn second_moment(a: i64, b: i64, e: i64, t: outline::Totals) -> i64
+fn second_moment(a: i64, b: i64, e: i64, t: Totals) -> i64
     requires row_within { RowWithin a b e }
     requires fit { Fit outline_bounds t }
     ensures { result ≡ second_moment a b e t }
@@ -90,7 +89,7 @@ fn second_moment(a: i64, b: i64, e: i64, t: outline::Totals) -> i64
 }
 
 // The bracket of XY24.
-fn mixed_moment(a: i64, b: i64, e: i64, g: i64, h: i64, f: i64, t: outline::Totals) -> i64
+fn mixed_moment(a: i64, b: i64, e: i64, g: i64, h: i64, f: i64, t: Totals) -> i64
     requires row_within { RowWithin a b e }
     requires row_within_2 { RowWithin g h f }
     requires fit { Fit outline_bounds t }
@@ -108,7 +107,7 @@ fn mixed_moment(a: i64, b: i64, e: i64, g: i64, h: i64, f: i64, t: outline::Tota
 }
 
 // What stands behind d in each of the six formulas.
-fn bracket_totals(m: outline::AffineMap, t: outline::Totals) -> outline::Totals
+fn bracket_totals(m: AffineMap, t: Totals) -> Totals
     requires map_within { MapWithin m }
     requires fit { Fit outline_bounds t }
     ensures { result ≡ brackets m t }
@@ -119,7 +118,7 @@ fn bracket_totals(m: outline::AffineMap, t: outline::Totals) -> outline::Totals
     let h = m.h as i64;
     let e = m.e as i64;
     let f = m.f as i64;
-    outline::Totals {
+    Totals {
         a2: t.a2,
         x6: first_moment(a, b, e, t),
         y6: first_moment(g, h, f, t),
@@ -129,61 +128,42 @@ fn bracket_totals(m: outline::AffineMap, t: outline::Totals) -> outline::Totals
     }
 }
 
-// Whether d × v is over the limit. Times 8, a bracket may not fit 64 bits, so the product is made only of one within the limit.
-fn product_over(d: i64, v: i64) -> bool
-    requires { AtMost 8 d }
-    ensures { result ≡ over total_limit (d *ℤ v) }
+// d × v, where it is within the limit of refusal 5.
+fn product(d: i64, v: i64) -> Option<i64>
+    ensures { result ≡ cond (over total_limit (d *ℤ v)) None (Some (d *ℤ v)) }
 {
-    if d == 0 {
-        return false;
+    let product = d.checked_mul(v)?;
+    if size_exceeds(product, TOTAL_LIMIT) {
+        return None;
     }
-    if size_exceeds(v, TOTAL_LIMIT) {
-        return true;
-    }
-    size_exceeds(d * v, TOTAL_LIMIT)
+    Some(product)
 }
 
-// Refusal 5, from the brackets s.
-fn result_outside_limits(d: i64, s: outline::Totals) -> bool
-    requires { AtMost 8 d }
-    ensures { result ≡ exceed total_limits (scaled d s) }
+// Each of the six times d, where refusal 5 lets them all through.
+fn scaled_by(d: i64, s: Totals) -> Option<Totals>
+    ensures { result ≡ cond (exceed total_limits (scaled d s)) None (Some (scaled d s)) }
 {
-    product_over(d, s.a2)
-        | product_over(d, s.x6)
-        | product_over(d, s.y6)
-        | product_over(d, s.xx12)
-        | product_over(d, s.xy24)
-        | product_over(d, s.yy12)
-}
-
-fn scale(d: i64, s: outline::Totals) -> outline::Totals
-    requires { Fit total_limits (scaled d s) }
-    ensures { result ≡ scaled d s }
-{
-    outline::Totals {
-        a2: d * s.a2,
-        x6: d * s.x6,
-        y6: d * s.y6,
-        xx12: d * s.xx12,
-        xy24: d * s.xy24,
-        yy12: d * s.yy12,
-    }
+    Some(Totals {
+        a2: product(d, s.a2)?,
+        x6: product(d, s.x6)?,
+        y6: product(d, s.y6)?,
+        xx12: product(d, s.xx12)?,
+        xy24: product(d, s.xy24)?,
+        yy12: product(d, s.yy12)?,
+    })
 }
 
 // The map call: the totals of the mapped outline, from the totals of the outline.
-pub fn map_totals(m: outline::AffineMap, t: outline::Totals) -> MapAnswer
+pub fn map_totals(m: AffineMap, t: Totals) -> Result<Totals, MapRefusal>
     ensures { reading result ≡ map_call m t }
 {
     if map_outside_limits(m) {
-        return MapAnswer::MapOutsideLimits;
+        return Err(MapRefusal::MapOutsideLimits);
     }
     if limits::outside_bounds(t) {
-        return MapAnswer::TotalsOutsideBounds;
+        return Err(MapRefusal::TotalsOutsideBounds);
     }
     let d = map_determinant(m);
     let s = bracket_totals(m, t);
-    if result_outside_limits(d, s) {
-        return MapAnswer::ResultOutsideLimits;
-    }
-    MapAnswer::Mapped(scale(d, s))
+    scaled_by(d, s).ok_or(MapRefusal::ResultOutsideLimits)
 }

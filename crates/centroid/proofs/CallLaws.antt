@@ -4,8 +4,8 @@ use mathlib.Core.Bool.{Bool, true, false, cond}
 use mathlib.Core.Logic.{◌≢◌}
 use native.Mathlib.Omega.{arith}
 use lib.Dec.{eqb}
-use lib.IntN.{ℤ, pos, neg_ℤ, nat_abs, ◌*ℤ◌}
-use lib.Signed.{◌<ℤ◌, lt_z}
+use lib.IntN.{ℤ, pos, nat_abs, ◌*ℤ◌}
+use lib.Signed.{◌<ℤ◌}
 use Rattle.outline.specs.declared.Totals.{Totals}
 use Rattle.outline.specs.EdgeSums.{exceed}
 use Rattle.outline.specs.MapCall.{total_limits}
@@ -13,7 +13,7 @@ use Rattle.outline.proofs.Limits.{exceed_fit}
 use Rattle.integers.specs.Rounding.{rounds_to, round_half_up}
 use Rattle.centroid.specs.Centroid.{CentroidOutcome, refused, centred, signed_by, outline_centroid_call}
 use Rattle.integers.proofs.HalfUp.{half_up_holds, half_up_only}
-use Rattle.centroid.proofs.Limits.{bounds_above, bounds_below}
+use Rattle.centroid.proofs.Limits.{quotient_bounds}
 
 -- k is the one centre of N and D.
 pub record IsTheCentre (n d k : ℤ) : Type 0 where
@@ -35,14 +35,6 @@ by_tests nx ny d true b h = record { x = λ e. absurd (omega arith); y = λ e. a
 by_tests nx ny d false true h = record { x = λ e. absurd (omega arith); y = λ e. absurd (omega arith); zeros = λ _. (refl, refl) }
 by_tests nx ny d false false h = record { x = λ _. the_centre nx d (h refl refl); y = λ _. the_centre ny d (h refl refl); zeros = λ f. absurd (f refl) }
 
-three_areas : (t : Totals) → exceed total_limits t ≡ false → eqb (nat_abs t.a2) 0 ≡ false → pos 0 <ℤ signed_by t.a2 (pos 3 *ℤ t.a2)
-unfolding signed_by
-three_areas t e f = go (lt_z t.a2 (pos 0)) refl
-  where
-    go : (b : Bool) → lt_z t.a2 (pos 0) ≡ b → pos 0 <ℤ cond b (neg_ℤ (pos 3 *ℤ t.a2)) (pos 3 *ℤ t.a2)
-    go true h = (bounds_below t.x6 t.a2 (exceed_fit total_limits t e).x6 (exceed_fit total_limits t e).a2 f h).above
-    go false h = (bounds_above t.x6 t.a2 (exceed_fit total_limits t e).x6 (exceed_fit total_limits t e).a2 f h).above
-
 pub outline-centre : (t : Totals) → Centred (signed_by t.a2 t.x6) (signed_by t.a2 t.y6) (signed_by t.a2 (pos 3 *ℤ t.a2)) (outline_centroid_call t)
 unfolding outline_centroid_call
-outline-centre t = by_tests _ _ _ (exceed total_limits t) (eqb (nat_abs t.a2) 0) (three_areas t)
+outline-centre t = by_tests _ _ _ (exceed total_limits t) (eqb (nat_abs t.a2) 0) (λ e f. let fit = exceed_fit total_limits t e in (quotient_bounds t.x6 t.a2 fit.x6 fit.a2 f).above)

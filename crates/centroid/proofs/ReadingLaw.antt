@@ -1,21 +1,22 @@
--- The reading of an answer is one to one, so the promises of this crate leave one answer only. By cases: the numbers 0, 11 and 27 differ.
-use mathlib.Core.Path.{◌≡◌, refl, ap, ap₂}
-use native.Mathlib.Omega.{arith}
-use Rattle.centroid.specs.declared.CentroidAnswer.{CentroidAnswer}
-use Rattle.centroid.specs.declared.CentroidAnswer.TheVariants.{At, OutsideLimits, NoArea}
+-- The reading of an answer is one to one, so the promises of this crate leave one answer only: the reading gives the answer back.
+use mathlib.Core.Path.{◌≡◌, refl, sym, ◌∙◌, ap}
+use mathlib.Core.Bool.{cond}
+use lib.Dec.{eqb}
+use Rattle.std.specs.Prelude.{Result, Ok, Err}
+use Rattle.centroid.specs.declared.Centre.{Centre}
+use Rattle.centroid.specs.declared.CentroidRefusal.{CentroidRefusal}
+use Rattle.centroid.specs.declared.CentroidRefusal.TheVariants.{OutsideLimits, NoArea}
 use Rattle.centroid.specs.Centroid.{CentroidOutcome}
 use Rattle.centroid.specs.Answers.{reading}
 
-number_of : {r q : CentroidOutcome} → r ≡ q → r.number ≡ q.number
-number_of e = ap (λ (r : CentroidOutcome). r.number) e
+answer : CentroidOutcome → Result Centre CentroidRefusal
+answer o = cond (eqb o.number 0) (Ok (record { x = o.x; y = o.y })) (cond (eqb o.number 11) (Err OutsideLimits) (Err NoArea))
 
-pub reading_one_to_one : (a b : CentroidAnswer) → reading a ≡ reading b → a ≡ b
-reading_one_to_one (At x y) (At x' y') e = ap₂ At (ap (λ (r : CentroidOutcome). r.x) e) (ap (λ (r : CentroidOutcome). r.y) e)
-reading_one_to_one OutsideLimits OutsideLimits e = refl
-reading_one_to_one NoArea NoArea e = refl
-reading_one_to_one (At x y) OutsideLimits e = absurd (omega (arith, number_of e))
-reading_one_to_one (At x y) NoArea e = absurd (omega (arith, number_of e))
-reading_one_to_one OutsideLimits (At x y) e = absurd (omega (arith, number_of e))
-reading_one_to_one OutsideLimits NoArea e = absurd (omega (arith, number_of e))
-reading_one_to_one NoArea (At x y) e = absurd (omega (arith, number_of e))
-reading_one_to_one NoArea OutsideLimits e = absurd (omega (arith, number_of e))
+answer_of_reading : (a : Result Centre CentroidRefusal) → answer (reading a) ≡ a
+unfolding answer
+answer_of_reading (Ok c) = refl
+answer_of_reading (Err OutsideLimits) = refl
+answer_of_reading (Err NoArea) = refl
+
+pub reading_one_to_one : (a b : Result Centre CentroidRefusal) → reading a ≡ reading b → a ≡ b
+reading_one_to_one a b e = sym (answer_of_reading a) ∙ ap answer e ∙ answer_of_reading b

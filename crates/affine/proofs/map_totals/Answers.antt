@@ -1,13 +1,17 @@
 -- `map_totals` answers as the map call: a refusal by the test that gave it, else the scaled brackets, which are the mapped totals.
-use mathlib.Core.Path.{◌≡◌, refl, sym, ◌∙◌, ap}
+use mathlib.Core.Path.{refl, sym, ◌∙◌, ap}
+use mathlib.Core.Bool.{cond}
+use Rattle.std.specs.Prelude.{Some, None}
+use Rattle.std.specs.Option.{ok_or}
 use Rattle.integers.proofs.Flags.{tells}
-use Rattle.integers.proofs.SizedNumbers.{i64, called}
+use Rattle.integers.proofs.SizedNumbers.{called}
 use Rattle.outline.specs.EdgeSums.{exceed, outline_bounds}
-use Rattle.outline.specs.ListCall.{accepted}
-use Rattle.outline.specs.MapCall.{determinant, total_limits}
+use Rattle.outline.specs.MapCall.{mapped, total_limits}
 use Rattle.outline.proofs.Limits.{exceed_fit}
-use Rattle.affine.proofs.MappedTotals.{scaled-brackets, by_tests}
-use Rattle.affine.proofs.WithinLimits.{map_within, determinant_small}
+use Rattle.affine.specs.declared.MapRefusal.TheVariants.{ResultOutsideLimits}
+use Rattle.affine.specs.Answer.{reading}
+use Rattle.affine.proofs.MappedTotals.{scaled-brackets, by_tests, told_or_refused}
+use Rattle.affine.proofs.WithinLimits.{map_within}
 use Rattle.affine.proofs.map_totals.Goals as goal
 
 pub returns-then-map_outside_limits : goal.returns-then-map_outside_limits
@@ -27,24 +31,6 @@ bracket_totals-s-requires-clause-map_within c = map_within _ (tells c.map_outsid
 pub bracket_totals-s-requires-clause-fit : goal.bracket_totals-s-requires-clause-fit
 bracket_totals-s-requires-clause-fit c = exceed_fit outline_bounds c.args.t (tells c.outside_bounds.ensures c.if-outside_bounds.false)
 
-pub result_outside_limits-requires : goal.result_outside_limits-requires
-result_outside_limits-requires c =
-    let d : i64 c.map_determinant-d.result ≡ determinant c.args.m = called refl c.map_determinant-d.type_inv c.map_determinant-d.ensures in
-    rw d (determinant_small (map_within _ (tells c.map_outside_limits.ensures c.if-map_outside_limits.false)))
-
-pub returns-then-result_outside_limits : goal.returns-then-result_outside_limits
-returns-then-result_outside_limits c =
-    let m = c.args.m in
-    let t = c.args.t in
-    let allowed = tells c.map_outside_limits.ensures c.if-map_outside_limits.false in
-    let inside = tells c.outside_bounds.ensures c.if-outside_bounds.false in
-    let image = scaled-brackets m t (called refl c.map_determinant-d.type_inv c.map_determinant-d.ensures) c.bracket_totals-s.ensures in
-    let fifth = ap (exceed total_limits) (sym image) ∙ tells c.result_outside_limits.ensures c.if-result_outside_limits.true in
-    sym (by_tests m t allowed inside fifth)
-
-pub scale-requires : goal.scale-requires
-scale-requires c = exceed_fit total_limits _ (tells c.result_outside_limits.ensures c.if-result_outside_limits.false)
-
 pub returns : goal.returns
 returns c =
     let m = c.args.m in
@@ -52,5 +38,7 @@ returns c =
     let allowed = tells c.map_outside_limits.ensures c.if-map_outside_limits.false in
     let inside = tells c.outside_bounds.ensures c.if-outside_bounds.false in
     let image = scaled-brackets m t (called refl c.map_determinant-d.type_inv c.map_determinant-d.ensures) c.bracket_totals-s.ensures in
-    let fifth = ap (exceed total_limits) (sym image) ∙ tells c.result_outside_limits.ensures c.if-result_outside_limits.false in
-    ap accepted (c.scale.ensures ∙ image) ∙ sym (by_tests m t allowed inside fifth)
+    ap reading c.ok_or.ensures.value
+    ∙ ap (λ o. reading (ok_or o ResultOutsideLimits)) (c.scaled_by.ensures ∙ (λ i. cond (exceed total_limits (image i)) None (Some (image i))))
+    ∙ told_or_refused (exceed total_limits (mapped m t)) (mapped m t)
+    ∙ sym (by_tests m t allowed inside refl)
