@@ -4,7 +4,6 @@ pub mod RegionCases
 pub mod RefusalLaw
 mod NumberChosen
 pub mod LowestIndex
-pub mod Tests
 pub mod GridLaws
 pub mod ClosedSums
 mod AnnexSums
@@ -18,4 +17,3 @@ pub mod WorkedIndices
 pub mod OnlyAnswers
 mod RegionUses
 mod IndexUses
-mod BigLiteral

@@ -2,6 +2,7 @@
 use mathlib.Core.Path.{◌≡◌, refl, sym, ◌∙◌, ap}
 use mathlib.Core.Bool.{Bool, true, false, not, ◌&&◌, ◌||◌, cond, or_assoc, or-false}
 use mathlib.Core.List.{List, [], ◌∷◌, ◌++◌, append_assoc, append-nil}
+use Rattle.std.specs.Prelude.{Ok, Err}
 use Prim.Native.Nat.{ℕ, zero, suc, ◌+◌, ◌<◌, ◌≤◌}
 use native.Mathlib.Omega.{arith}
 use lib.Dec.{leb, ltb, eqb, leb-zero}
@@ -13,13 +14,11 @@ use Rattle.cell_ground.specs.Ground.{ground_of}
 use Rattle.cell_ground.proofs.SumLaws.{sums-append}
 use Rattle.cells.specs.declared.Run.{Run}
 use Rattle.cells.specs.declared.Scan.{Scan}
-use Rattle.cells.specs.declared.Found.{Found}
-use Rattle.cells.specs.declared.Found.TheVariants.{Sums, BadRun, OutOfOrder}
-use Rattle.cells.specs.declared.RegionAnswer.TheVariants.{TooManyRuns}
+use Rattle.cells.specs.declared.RegionRefusal.TheVariants.{BadRun, OutOfOrder, TooManyRuns}
 use Rattle.cells.specs.RunCells.{cells_of, all_cells}
 use Rattle.cells.specs.RegionCall.{empty_run, bad_run, any_bad, lies_after, disordered, run_at, breaks_six, breaks_seven, region_call, reading}
 use Rattle.cells.specs.RegionLaws.{AllKeep, LowestToBreak}
-use Rattle.cells.specs.private.Scan.{held, sums_of, no_runs, found_with, add_run, answer_of, SumsSmall, HasRoom}
+use Rattle.cells.specs.private.Scan.{Found, held, sums_of, no_runs, found_with, add_run, answer_of, SumsSmall, HasRoom}
 use Rattle.cells.proofs.GridLaws.{runs_within}
 use Rattle.cells.proofs.RulePlaces.{good_at, ordered_at, few, many}
 use Rattle.cells.proofs.LowestIndex.{lowest_is}
@@ -104,26 +103,29 @@ seven-here (p ∷ qs) r = rw (get_or-append (p ∷ qs) (r ∷ []) _ (length qs) 
 -- ---- what was found in the runs read so far
 
 abbrev pub Decided : List Run → Found → Type 0
-Decided rs (Sums s) = (any_bad rs ≡ false) × ((disordered rs ≡ false) × (sums_of s ≡ sums_over (all_cells rs)))
-Decided rs (BadRun i) = (any_bad rs ≡ true) × LowestToBreak breaks_six rs i
-Decided rs (OutOfOrder i) = (any_bad rs ≡ false) × ((disordered rs ≡ true) × LowestToBreak breaks_seven rs i)
+Decided rs (Ok s) = (any_bad rs ≡ false) × ((disordered rs ≡ false) × (sums_of s ≡ sums_over (all_cells rs)))
+Decided rs (Err (BadRun i)) = (any_bad rs ≡ true) × LowestToBreak breaks_six rs i
+Decided rs (Err (OutOfOrder i)) = (any_bad rs ≡ false) × ((disordered rs ≡ true) × LowestToBreak breaks_seven rs i)
+-- A scan does not count the runs.
+Decided rs (Err TooManyRuns) = ⊥
 
 -- One run more.
 decided_next : (rs : List Run) (r : Run) (a : Found) → Decided rs a → Decided (rs ++ r ∷ []) (found_with a (length rs) (last_of rs) r)
 unfolding found_with
-decided_next rs r (Sums s) (b, (o, e)) = go (bad_run r) refl (lies_after (last_of rs) r) refl
+decided_next rs r (Ok s) (b, (o, e)) = go (bad_run r) refl (lies_after (last_of rs) r) refl
   where
     go : (x : Bool) → bad_run r ≡ x → (y : Bool) → lies_after (last_of rs) r ≡ y
-        → Decided (rs ++ r ∷ []) (cond x (BadRun (length rs)) (cond (not y) (OutOfOrder (length rs)) (Sums (held (plus_sums (sums_of s) (sums_over (cells_of r)))))))
+        → Decided (rs ++ r ∷ []) (cond x (Err (BadRun (length rs))) (cond (not y) (Err (OutOfOrder (length rs))) (Ok (held (plus_sums (sums_of s) (sums_over (cells_of r)))))))
     go true p y q = (rw (bad_snoc rs r, b, p), lowest_here breaks_six six_local rs r (good_at rs b) (six-here rs r ∙ p))
     go false p false q = (rw (bad_snoc rs r, b, p), (rw (order_snoc rs r, o, q), lowest_here breaks_seven seven_local rs r (ordered_at rs o) (seven-here rs r ∙ ap not q)))
     go false p true q = (rw (bad_snoc rs r, b, p), (rw (order_snoc rs r, o, q), rw (cells_snoc rs r, sums-append, ← e)))
-decided_next rs r (BadRun i) (b, h) = (rw (bad_snoc rs r, b), lowest_stays breaks_six six_local rs r h)
-decided_next rs r (OutOfOrder i) (b, (o, h)) = go (bad_run r) refl
+decided_next rs r (Err (BadRun i)) (b, h) = (rw (bad_snoc rs r, b), lowest_stays breaks_six six_local rs r h)
+decided_next rs r (Err (OutOfOrder i)) (b, (o, h)) = go (bad_run r) refl
   where
-    go : (x : Bool) → bad_run r ≡ x → Decided (rs ++ r ∷ []) (cond x (BadRun (length rs)) (OutOfOrder i))
+    go : (x : Bool) → bad_run r ≡ x → Decided (rs ++ r ∷ []) (Err (cond x (BadRun (length rs)) (OutOfOrder i)))
     go true p = (rw (bad_snoc rs r, b, p), lowest_here breaks_six six_local rs r (good_at rs b) (six-here rs r ∙ p))
     go false p = (rw (bad_snoc rs r, b, p), (rw (order_snoc rs r, o), lowest_stays breaks_seven seven_local rs r h))
+decided_next rs r (Err TooManyRuns) d = absurd d
 
 -- ---- a scan of runs
 
@@ -149,9 +151,8 @@ pub sums_small : (rs : List Run) {s : Scan} → Stands rs s → length rs ≤ 40
 sums_small rs {s} h l = go s.found h.found
   where
     go : (a : Found) → Decided rs a → SumsSmall a
-    go (Sums s) (b, (o, e)) = rw e (runs_within rs b l)
-    go (BadRun i) d = tt
-    go (OutOfOrder i) d = tt
+    go (Ok s) (b, (o, e)) = rw e (runs_within rs b l)
+    go (Err r) d = tt
 
 pub room : (rs : List Run) {s : Scan} → Stands rs s → length rs < 4096 → HasRoom s
 room rs h l = record { runs = omega (arith, h.count); sums = sums_small rs h (omega arith) }
@@ -163,10 +164,11 @@ unfolding region_call ground_of
 answered rs {s} h l = go s.found h.found
   where
     go : (a : Found) → Decided rs a → reading (answer_of a) ≡ region_call rs
-    go (Sums s) (b, (o, e)) = rw (few rs l, b, o, ← e)
-    go (BadRun i) (b, k) = rw (few rs l, b, lowest_is breaks_six rs k)
-    go (OutOfOrder i) (b, (o, k)) = rw (few rs l, b, o, lowest_is breaks_seven rs k)
+    go (Ok s) (b, (o, e)) = rw (few rs l, b, o, ← e)
+    go (Err (BadRun i)) (b, k) = rw (few rs l, b, lowest_is breaks_six rs k)
+    go (Err (OutOfOrder i)) (b, (o, k)) = rw (few rs l, b, o, lowest_is breaks_seven rs k)
+    go (Err TooManyRuns) d = absurd d
 
-pub too_many : (rs : List Run) → 4096 < length rs → reading TooManyRuns ≡ region_call rs
+pub too_many : (rs : List Run) → 4096 < length rs → reading (Err TooManyRuns) ≡ region_call rs
 unfolding region_call
 too_many rs l = rw (many rs l)

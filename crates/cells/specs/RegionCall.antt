@@ -1,12 +1,12 @@
 -- Document 01, "Cells" and the refusals 6, 7 and 8, with the totals of document 02, CR 2, and the index of CR 8: the outcome of the call on a list of runs.
-use Rattle.std.specs.Prelude.{ℕ, zero, suc, ◌+◌, Bool, false, not, ◌&&◌, ◌||◌, cond, List, [], ◌∷◌, leb, ltb, eqb, length, get_or}
+use Rattle.std.specs.Prelude.{ℕ, zero, suc, ◌+◌, Bool, false, not, ◌&&◌, ◌||◌, cond, Result, Ok, Err, List, [], ◌∷◌, leb, ltb, eqb, length, get_or}
 use Rattle.integers.specs.Search.{first_where}
 use Rattle.outline.specs.declared.Totals.{Totals}
 use Rattle.outline.specs.EdgeSums.{zeros}
 use Rattle.cell_ground.specs.Ground.{ground_of}
 use Rattle.cells.specs.declared.Run.{Run}
-use Rattle.cells.specs.declared.RegionAnswer.{RegionAnswer}
-use Rattle.cells.specs.declared.RegionAnswer.TheVariants.{Accepted, BadRun, OutOfOrder, TooManyRuns}
+use Rattle.cells.specs.declared.RegionRefusal.{RegionRefusal}
+use Rattle.cells.specs.declared.RegionRefusal.TheVariants.{BadRun, OutOfOrder, TooManyRuns}
 use Rattle.cells.specs.RunCells.{all_cells}
 
 abbrev pub empty_run : Run
@@ -76,9 +76,18 @@ region_call rs =
 
 -- ---- the answer
 
+abbrev pub region_number : RegionRefusal → ℕ
+region_number (BadRun i) = 6
+region_number (OutOfOrder i) = 7
+region_number TooManyRuns = 8
+
+-- The index that a refusal tells, 0 but with 6 and 7.
+abbrev pub region_index : RegionRefusal → ℕ
+region_index (BadRun i) = i
+region_index (OutOfOrder i) = i
+region_index TooManyRuns = 0
+
 -- The answer in document 01's terms.
-abbrev pub reading : RegionAnswer → RegionOutcome
-reading (Accepted t) = record { number = 0; index = 0; totals = t }
-reading (BadRun i) = refused 6 i
-reading (OutOfOrder i) = refused 7 i
-reading TooManyRuns = refused 8 0
+abbrev pub reading : Result Totals RegionRefusal → RegionOutcome
+reading (Ok t) = record { number = 0; index = 0; totals = t }
+reading (Err r) = refused (region_number r) (region_index r)

@@ -1,46 +1,102 @@
 // Document 01, "Cells", and document 02, CR 2: the totals of the ground under a region, over the runs that a caller lends. Time goes by the number of runs, not of cells.
 #![tactic(auto)]
 
-ghost use Rattle.std.specs.Prelude.{◌≡◌, not, ◌^◌, get_or};
+ghost use Rattle.std.specs.Prelude.{◌≡◌, ◌+◌, ◌^◌, get_or};
 ghost use Rattle.cell_ground.specs.CellSums.{plus_sums};
 ghost use Rattle.cell_ground.specs.Ground.{ground_totals};
 ghost use Rattle.cell_ground.specs.private.SumBounds.{SumsWithin};
-ghost use Rattle.column_sums.specs.Annex.{square_sums};
-ghost use Rattle.cells.specs.RegionCall.{bad_run, lies_after, region_call, reading};
-ghost use Rattle.cells.specs.private.Scan.{held, sums_of, sums_by, no_runs, found_with, add_run, answer_of, RunInGrid, SumsSmall, HasRoom};
+ghost use Rattle.cells.specs.RegionCall.{bad_run, lies_after, region_call, region_number, reading};
+ghost use Rattle.cells.specs.private.Scan.{held, sums_of, sums_by, no_runs, refusal_with, found_with, add_run, answer_of, RunInGrid, SumsSmall, HasRoom};
 
 use column_sums::index_sum;
 use outline::Totals;
-use square_table::{entry_at, square_sums};
+use refusals::Refusal;
+use square_table::{SquareSums, entry_at};
 
 // As many cells of a row as `length`, from the column `first` on. Laid out as in C, whose callers lend lists of them.
 #[repr(C)]
-#[derive(Clone, Copy)]
+#[derive(Clone, Copy, Debug, PartialEq, Eq)]
 pub struct Run {
     pub row: u32,
     pub first: u32,
     pub length: u32,
 }
 
-// The totals of a region, or why it has none: refusal 6 or 7 with the lowest index of a run that breaks it (document 02, CR 8), or 8.
-#[derive(Clone, Copy)]
-pub enum RegionAnswer {
-    Accepted(Totals),
+impl Run {
+    // The column past the last cell. The sum of two 32-bit numbers cannot wrap at 64 bits.
+    fn end(self) -> u64
+        ensures { result ≡ self.first + self.length }
+    {
+        u64::from(self.first) + u64::from(self.length)
+    }
+
+    // Refusal 6.
+    #[tactic(auto, unfolding(crate::specs::RegionCall::bad_run))]
+    fn is_bad(self) -> bool
+        ensures { result ≡ bad_run self }
+    {
+        1023 < self.row || self.length == 0 || 1024 < self.end()
+    }
+
+    // Refusal 7 is of a run that does not lie after the one before it.
+    #[tactic(auto, unfolding(crate::specs::RegionCall::lies_after))]
+    fn lies_after(self, earlier: Run) -> bool
+        ensures { result ≡ lies_after earlier self }
+    {
+        earlier.row < self.row || earlier.row == self.row && earlier.end() <= u64::from(self.first)
+    }
+
+    // The sums over the cells: those of x and x² are differences of the sums below the run's ends, which are at most 1,024. The sums of squares are those of the
+    // table, whatever it has (document 02, CR 6).
+    fn sums(self, squares: &[u32]) -> CellSums
+        requires { RunInGrid self }
+        ensures { result ≡ held (sums_by (λ k. get_or squares.now k 0) self) }
+    {
+        let first = self.first as u16;
+        let end = self.end() as u16;
+        let n = i64::from(self.length);
+        let y = i64::from(self.row);
+        let x = index_sum(end) - index_sum(first);
+        let xx = entry_at(squares, usize::from(end)) - entry_at(squares, usize::from(first));
+        CellSums {
+            count: n,
+            x,
+            y: n * y,
+            xx,
+            xy: x * y,
+            yy: n * y * y,
+        }
+    }
+}
+
+// Why a region has no totals: refusal 6 or 7 with the lowest index of a run that breaks it (document 02, CR 8), or 8.
+#[derive(Clone, Copy, Debug, PartialEq, Eq)]
+pub enum RegionRefusal {
     BadRun(usize),
     OutOfOrder(usize),
     TooManyRuns,
 }
 
-impl RegionAnswer {
-    // The number of the refusal in document 01, 0 where there is none.
-    pub fn number(self) -> u32
-        ensures { result ≡ (reading self).number }
+impl RegionRefusal {
+    // With one run more, which has this index: what was found first stays, but for a 7, which gives way to the first 6.
+    fn with(self, run: Run, index: usize) -> RegionRefusal
+        ensures { result ≡ refusal_with self index run }
     {
         match self {
-            RegionAnswer::Accepted(_) => 0,
-            RegionAnswer::BadRun(_) => 6,
-            RegionAnswer::OutOfOrder(_) => 7,
-            RegionAnswer::TooManyRuns => 8,
+            RegionRefusal::OutOfOrder(_) if run.is_bad() => RegionRefusal::BadRun(index),
+            first => first,
+        }
+    }
+}
+
+impl Refusal for RegionRefusal {
+    ghost numbered = { region_number };
+
+    fn number(self) -> u32 {
+        match self {
+            RegionRefusal::BadRun(_) => 6,
+            RegionRefusal::OutOfOrder(_) => 7,
+            RegionRefusal::TooManyRuns => 8,
         }
     }
 }
@@ -56,117 +112,8 @@ struct CellSums {
     yy: i64,
 }
 
-// What the runs read so far have come to: the sums over their cells; or the index of the first run that breaks 6, or of the first that breaks 7 where none breaks 6.
-#[derive(Clone, Copy)]
-enum Found {
-    Sums(CellSums),
-    BadRun(usize),
-    OutOfOrder(usize),
-}
-
-// The runs read so far: their number, the last of them, and what they have come to.
-#[derive(Clone, Copy)]
-struct Scan {
-    count: usize,
-    last: Run,
-    found: Found,
-}
-
-// Refusal 6. The sum of two 32-bit numbers cannot wrap at 64 bits.
-fn bad_run(run: Run) -> bool
-    ensures { result ≡ bad_run run }
-{
-    if 1023 < run.row {
-        return true;
-    }
-    if run.length == 0 {
-        return true;
-    }
-    1024 < run.first as u64 + run.length as u64
-}
-
-// Refusal 7, of a run and the one before it.
-fn out_of_order(earlier: Run, run: Run) -> bool
-    ensures { result ≡ not (lies_after earlier run) }
-{
-    if earlier.row < run.row {
-        return false;
-    }
-    if run.row < earlier.row {
-        return true;
-    }
-    (run.first as u64) < earlier.first as u64 + earlier.length as u64
-}
-
-// The sums of one run: those of x and x² are differences of the sums below its ends, which are at most 1,024. The sums of squares are those of the table, whatever it has
-// (document 02, CR 6).
-fn run_sums(run: Run, squares: &[u32]) -> CellSums
-    requires { RunInGrid run }
-    ensures { result ≡ held (sums_by (λ k. get_or squares.now k 0) run) }
-{
-    let first = run.first as u16;
-    let end = (run.first + run.length) as u16;
-    let n = run.length as i64;
-    let y = run.row as i64;
-    let x = index_sum(end) - index_sum(first);
-    let xx = entry_at(squares, end as usize) - entry_at(squares, first as usize);
-    CellSums {
-        count: n,
-        x,
-        y: n * y,
-        xx,
-        xy: x * y,
-        yy: n * y * y,
-    }
-}
-
-// The bounds are those of 4,096 runs and of one run.
-fn add_sums(s: CellSums, t: CellSums) -> CellSums
-    requires sums_within { SumsWithin (2 ^ 22) (sums_of s) }
-    requires sums_within_2 { SumsWithin (2 ^ 10) (sums_of t) }
-    ensures { result ≡ held (plus_sums (sums_of s) (sums_of t)) }
-{
-    CellSums {
-        count: s.count + t.count,
-        x: s.x + t.x,
-        y: s.y + t.y,
-        xx: s.xx + t.xx,
-        xy: s.xy + t.xy,
-        yy: s.yy + t.yy,
-    }
-}
-
-// Document 02, CR 2: the totals of the ground under cells, by the sums over them.
-fn ground_totals(s: CellSums) -> Totals
-    requires { SumsWithin (2 ^ 22) (sums_of s) }
-    ensures { result ≡ ground_totals (sums_of s) }
-{
-    let n = s.count;
-    let x = s.x;
-    let y = s.y;
-    let xx = s.xx;
-    let xy = s.xy;
-    let yy = s.yy;
-    Totals {
-        a2: 2 * n,
-        x6: 6 * x + 3 * n,
-        y6: 6 * y + 3 * n,
-        xx12: 12 * xx + 12 * x + 4 * n,
-        xy24: 24 * xy + 12 * x + 12 * y + 6 * n,
-        yy12: 12 * yy + 12 * y + 4 * n,
-    }
-}
-
-// Before the first run. Every run lies after an empty one at row 0, column 0, so the first needs no test of its own.
-fn no_runs() -> Scan
-    ensures { result ≡ no_runs }
-{
-    let last = Run {
-        row: 0,
-        first: 0,
-        length: 0,
-    };
-    let none = CellSums {
+impl CellSums {
+    const NONE: CellSums = CellSums {
         count: 0,
         x: 0,
         y: 0,
@@ -174,88 +121,114 @@ fn no_runs() -> Scan
         xy: 0,
         yy: 0,
     };
-    Scan {
-        count: 0,
-        last,
-        found: Found::Sums(none),
-    }
-}
 
-// With one run more. What was found first stays, but for a 7, which gives way to the first 6.
-fn next_found(scan: Scan, run: Run, squares: &[u32]) -> Found
-    requires has_room { HasRoom scan }
-    requires squares_value { squares.now ≡ square_sums }
-    ensures { result ≡ found_with scan.found scan.count scan.last run }
-{
-    let found = scan.found;
-    let last = scan.last;
-    match found {
-        Found::Sums(sums) => {
-            if bad_run(run) {
-                return Found::BadRun(scan.count);
-            }
-            if out_of_order(last, run) {
-                return Found::OutOfOrder(scan.count);
-            }
-            let more = run_sums(run, squares);
-            Found::Sums(add_sums(sums, more))
+    // The bounds are those of 4,096 runs and of one run.
+    fn plus(self, more: CellSums) -> CellSums
+        requires sums { SumsWithin (2 ^ 22) (sums_of self) }
+        requires more { SumsWithin (2 ^ 10) (sums_of more) }
+        ensures { result ≡ held (plus_sums (sums_of self) (sums_of more)) }
+    {
+        CellSums {
+            count: self.count + more.count,
+            x: self.x + more.x,
+            y: self.y + more.y,
+            xx: self.xx + more.xx,
+            xy: self.xy + more.xy,
+            yy: self.yy + more.yy,
         }
-        Found::OutOfOrder(index) => {
-            if bad_run(run) {
-                return Found::BadRun(scan.count);
-            }
-            Found::OutOfOrder(index)
+    }
+
+    // Document 02, CR 2: the totals of the ground under cells, by the sums over them.
+    fn ground(self) -> Totals
+        requires { SumsWithin (2 ^ 22) (sums_of self) }
+        ensures { result ≡ ground_totals (sums_of self) }
+    {
+        Totals {
+            a2: 2 * self.count,
+            x6: 6 * self.x + 3 * self.count,
+            y6: 6 * self.y + 3 * self.count,
+            xx12: 12 * self.xx + 12 * self.x + 4 * self.count,
+            xy24: 24 * self.xy + 12 * self.x + 12 * self.y + 6 * self.count,
+            yy12: 12 * self.yy + 12 * self.y + 4 * self.count,
         }
-        Found::BadRun(index) => Found::BadRun(index),
     }
 }
 
-fn add_run(scan: Scan, run: Run, squares: &[u32]) -> Scan
-    requires { HasRoom scan × (squares.now ≡ square_sums) }
-    ensures { result ≡ add_run scan run }
-{
-    let found = next_found(scan, run, squares);
-    Scan {
-        count: scan.count + 1,
-        last: run,
-        found,
+// The runs read so far: their number, the last of them, and what they have come to: the sums over their cells; or the index of the first run that breaks 6, or of
+// the first that breaks 7 where none breaks 6.
+#[derive(Clone, Copy)]
+struct Scan {
+    count: usize,
+    last: Run,
+    found: Result<CellSums, RegionRefusal>,
+}
+
+impl Scan {
+    // Before the first run. Every run lies after an empty one at row 0, column 0, so the first needs no test of its own.
+    fn of_no_runs() -> Scan
+        ensures { result ≡ no_runs }
+    {
+        Scan {
+            count: 0,
+            last: Run {
+                row: 0,
+                first: 0,
+                length: 0,
+            },
+            found: Ok(CellSums::NONE),
+        }
+    }
+
+    // What all have come to with one run more.
+    fn found_with(self, run: Run, squares: &SquareSums) -> Result<CellSums, RegionRefusal>
+        requires { HasRoom self }
+        ensures { result ≡ found_with self.found self.count self.last run }
+    {
+        match self.found {
+            Ok(sums) => {
+                if run.is_bad() {
+                    return Err(RegionRefusal::BadRun(self.count));
+                }
+                if !run.lies_after(self.last) {
+                    return Err(RegionRefusal::OutOfOrder(self.count));
+                }
+                Ok(sums.plus(run.sums(squares.table())))
+            }
+            Err(refusal) => Err(refusal.with(run, self.count)),
+        }
+    }
+
+    fn with(self, run: Run, squares: &SquareSums) -> Scan
+        requires { HasRoom self }
+        ensures { result ≡ add_run self run }
+    {
+        Scan {
+            count: self.count + 1,
+            last: run,
+            found: self.found_with(run, squares),
+        }
+    }
+
+    // The answer, once all runs are read.
+    fn answer(self) -> Result<Totals, RegionRefusal>
+        requires { SumsSmall self.found }
+        ensures { result ≡ answer_of self.found }
+    {
+        Ok(self.found?.ground())
     }
 }
 
-// The answer, once all runs are read.
-fn answer_of(scan: Scan) -> RegionAnswer
-    requires { SumsSmall scan.found }
-    ensures { result ≡ answer_of scan.found }
-{
-    let found = scan.found;
-    match found {
-        Found::Sums(sums) => RegionAnswer::Accepted(ground_totals(sums)),
-        Found::BadRun(index) => RegionAnswer::BadRun(index),
-        Found::OutOfOrder(index) => RegionAnswer::OutOfOrder(index),
-    }
-}
-
-// `region_totals`, with the table of the annex lent. Thin: what a run adds, and what all come to, is told by functions of their own.
-fn totals_by_table(runs: &[Run], squares: &[u32]) -> RegionAnswer
-    requires { squares.now ≡ square_sums }
+// The six totals of the ground under the region that the runs make up, or why it has none. The annex is made once and lent.
+pub fn region_totals(runs: &[Run]) -> Result<Totals, RegionRefusal>
     ensures { reading result ≡ region_call runs.now }
 {
     if 4096 < runs.len() {
-        return RegionAnswer::TooManyRuns;
+        return Err(RegionRefusal::TooManyRuns);
     }
-    let mut scan = no_runs();
-    let mut i = 0;
-    while i < runs.len() {
-        scan = add_run(scan, runs[i], squares);
-        i = i + 1;
+    let squares = SquareSums::new();
+    let mut scan = Scan::of_no_runs();
+    for run in runs {
+        scan = scan.with(*run, &squares);
     }
-    answer_of(scan)
-}
-
-// The six totals of the ground under the region that the runs make up, or why it has none. The table is built once and lent.
-pub fn region_totals(runs: &[Run]) -> RegionAnswer
-    ensures { reading result ≡ region_call runs.now }
-{
-    let squares = square_sums();
-    totals_by_table(runs, &squares)
+    scan.answer()
 }

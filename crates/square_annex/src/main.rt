@@ -16,7 +16,7 @@ fn put_line(out: &mut [u8], at: usize, entry: u32) -> usize
     ensures { Written out.old at (line_of entry) out.new result }
 {
     let end = decimals::put_digits(out, at, entry as u64);
-    out[end] = 10;
+    out[end] = b'\n';
     end + 1
 }
 
@@ -25,13 +25,11 @@ fn annex(out: &mut [u8]) -> usize
     requires { 65536 ≡ length out.old }
     ensures { Written out.old 0 (lines_of square_sums) out.new result }
 {
-    let mut at: usize = 0;
-    let mut sum: u32 = 0;
-    let mut k: u32 = 0;
-    while k <= 1024 {
+    let mut at = 0;
+    let mut sum = 0;
+    for k in 0..1025 {
         at = put_line(out, at, sum);
-        sum = sum + k * k;
-        k = k + 1;
+        sum += k * k;
     }
     at
 }

@@ -8,7 +8,29 @@ mod annex;
 
 use annex::SQUARE_SUMS;
 
-// The table, for a caller to keep and to lend to `entry_at`. A constant array is built anew wherever it is named, so a call that reads many entries asks for it once.
+// The annex, for a call that reads many entries: a constant array is built anew wherever it is named, so such a call makes one of these and lends it on.
+#[derive(Drop)]
+pub struct SquareSums {
+    table: [u32; 1025],
+    ghost annex: { table ≡ square_sums },
+}
+
+impl SquareSums {
+    pub fn new() -> SquareSums {
+        SquareSums {
+            table: square_sums(),
+        }
+    }
+
+    // The table, for `entry_at`.
+    pub fn table(&self) -> &[u32]
+        ensures { result.now ≡ square_sums }
+    {
+        &self.table
+    }
+}
+
+// The table of the annex.
 pub fn square_sums() -> [u32; 1025]
     ensures { result ≡ square_sums }
 {
@@ -19,8 +41,5 @@ pub fn square_sums() -> [u32; 1025]
 pub fn entry_at(table: &[u32], k: usize) -> i64
     ensures { result ≡ pos (get_or table.now k 0) }
 {
-    if k < table.len() {
-        return table[k] as i64;
-    }
-    0
+    i64::from(table.get(k).copied().unwrap_or(0))
 }

@@ -7,7 +7,6 @@ use lib.IntN.{ℤ, pos, ◌+ℤ◌, ◌*ℤ◌}
 use Rattle.integers.proofs.Ring.{ring, quote}
 use Rattle.integers.proofs.SignedCode.{code, casts, fit32, sfits_nat_abs}
 use Rattle.integers.proofs.SizedNumbers.{Sized, sized, numbers, fits, is_plain}
-use Rattle.integers.proofs.Widening.{widens}
 use Rattle.outline.specs.declared.Totals.{Totals}
 use Rattle.outline.proofs.TotalsLaws.{totals_equal}
 use Rattle.cell_ground.specs.Ground.{ground_totals, row_sums}
@@ -72,50 +71,7 @@ returns c =
     (is_plain (operands c) (search (fit32 (values c) c.ranges.x, casts, code) depth 40) tt ∙ xy24_is (y c) (n c) (x c) (xx c))
     (is_plain (operands c) (search (casts, code) depth 40) tt ∙ yy12_is (y c) (n c) (x c) (xx c))
 
-pub overflow_mul-h : goal.overflow_mul-h
-overflow_mul-h c = fits (operands c) (search (casts, code) depth 40) tt
-
-pub overflow_add-h : goal.overflow_add-h
-overflow_add-h c = fits (operands c) (search (casts, code) depth 40) tt
-
-pub overflow_cast-sx : goal.overflow_cast-sx
-overflow_cast-sx c = widens c.ranges.x
-
-pub overflow_mul-x6 : goal.overflow_mul-x6
-overflow_mul-x6 c = fits (operands c) (search (fit32 (values c) c.ranges.x, casts, code) depth 40) tt
-
-pub overflow_mul-x6-2 : goal.overflow_mul-x6-2
-overflow_mul-x6-2 c = fits (operands c) (search (casts, code) depth 40) tt
-
-pub overflow_add-x6 : goal.overflow_add-x6
-overflow_add-x6 c = fits (operands c) (search (fit32 (values c) c.ranges.x, casts, code) depth 40) tt
-
-pub overflow_mul-y6 : goal.overflow_mul-y6
-overflow_mul-y6 c = fits (operands c) (search (casts, code) depth 40) tt
-
-pub overflow_mul-y6-2 : goal.overflow_mul-y6-2
-overflow_mul-y6-2 c = fits (operands c) (search (casts, code) depth 40) tt
-
-pub overflow_mul-result : goal.overflow_mul-result
-overflow_mul-result c = fits (operands c) (search (casts, code) depth 40) tt
-
-pub overflow_cast-result : goal.overflow_cast-result
-overflow_cast-result c = widens c.ranges.xx
-
-pub overflow_add-result : goal.overflow_add-result
-overflow_add-result c = fits (operands c) (search (fit32 (values c) c.ranges.x, fit32 (values c) c.ranges.xx, casts, code) depth 40) tt
-
-pub overflow_mul-result-2 : goal.overflow_mul-result-2
-overflow_mul-result-2 c = fits (operands c) (search (fit32 (values c) c.ranges.x, fit32 (values c) c.ranges.xx, casts, code) depth 40) tt
-
-pub overflow_mul-result-3 : goal.overflow_mul-result-3
-overflow_mul-result-3 c = fits (operands c) (search (casts, code) depth 40) tt
-
-pub overflow_add-result-2 : goal.overflow_add-result-2
-overflow_add-result-2 c = fits (operands c) (search (fit32 (values c) c.ranges.x, fit32 (values c) c.ranges.xx, casts, code) depth 40) tt
-
-pub overflow_mul-result-4 : goal.overflow_mul-result-4
-overflow_mul-result-4 c = fits (operands c) (search (fit32 (values c) c.ranges.x, casts, code) depth 40) tt
+-- ---- the products of three numbers fit too
 
 pub overflow_mul-result-5 : goal.overflow_mul-result-5
 overflow_mul-result-5 c = fits (operands c) (search (fit32 (values c) c.ranges.x, casts, code) depth 40) tt

@@ -13,7 +13,7 @@ use Rattle.square_annex.proofs.annex.Goals as goal
 
 pub loop-k-init : goal.loop-k-init
 unfolding square_sum lines_of entries_from
-loop-k-init c = record { most = omega arith; entry = refl; size = refl; lines = none_written c.args.out.now 0 }
+loop-k-init c = record { entry = refl; size = refl; lines = none_written c.args.out.now 0 }
 
 pub put_line-at-requires : goal.put_line-at-requires
 put_line-at-requires c = let l = c.loop-k in omega (arith, l.invariant.lines.end, lines-length 0 l.k (omega arith), c.requires)
@@ -34,7 +34,6 @@ loop-k-preserved c =
     let l = c.loop-k in
     let line = c.put_line-at in
     record {
-      most = omega arith;
       entry = rw add-one (ap (λ s. s + l.k * l.k) l.invariant.entry);
       size = line.auto.out ∙ l.invariant.size;
       lines = rw (add-one, one_line_more 0 l.k l.k (omega arith)) (then (omega arith) l.invariant.lines (rw l.invariant.entry at line.ensures));
