@@ -4,3 +4,5 @@ mod NextRun
 mod RunsLeft
 mod RunsOfWord
 mod Written
+mod WrongLengths
+mod RowOfWords

@@ -10,7 +10,10 @@ use lib.Dec.{eqb}
 use lib.IntN.{+ℤ_idr, +ℤ_assoc}
 use lib.Pow.{pow_pos}
 use Rattle.integers.specs.Search.{first_where}
-use Rattle.word_runs.specs.Bits.{bit, first_of}
+use Rattle.std.specs.Prelude.{None, Some}
+use Rattle.std.specs.Option.{unwrap_or}
+use Rattle.word_runs.specs.Bits.{bit, first_of, place}
+use Rattle.word_runs.proofs.Places.{place_of, past_places, place_or_64}
 use Rattle.integers.proofs.Searches.{found_bounds, found_holds, none_before}
 use Rattle.word_runs.proofs.WordSearch.{within_word}
 use Rattle.column_sums.specs.SumsBelow.{square_sum}
@@ -51,7 +54,7 @@ clear_span w k a s h l clear =
     ∙ no_more_cells (word_cells w k a) (k / 16) (column k s) (s - s) (omega arith)
 
 module _ (w k a s : ℕ) (h : a ≤ 64) (found : s ≡ first_of 1 (64 - a) w a) where
-  pub set_from : a ≤ s
+  set_from : a ≤ s
   set_from = omega (arith, (found_bounds (λ (i : ℕ). eqb (bit w i) 1) (64 - a) a).0)
 
   set_below : s ≤ 64
@@ -66,10 +69,10 @@ module _ (w k a s : ℕ) (h : a ≤ 64) (found : s ≡ first_of 1 (64 - a) w a) 
 -- ---- from there up to the next clear bit all are
 
 module _ (w k s e : ℕ) (h : s ≤ 64) (found : e ≡ first_of 0 (64 - s) w s) where
-  pub end-from : s ≤ e
+  end-from : s ≤ e
   end-from = omega (arith, (found_bounds (λ (i : ℕ). eqb (bit w i) 0) (64 - s) s).0)
 
-  pub end_below : e ≤ 64
+  end_below : e ≤ 64
   end_below = omega (arith, within_word 0 w s h)
 
   set_cells : word_cells w k e ≡ word_cells w k s ++ cells_from (k / 16) (column k s) (e - s)
@@ -78,7 +81,7 @@ module _ (w k s e : ℕ) (h : s ≤ 64) (found : e ≡ first_of 0 (64 - s) w s) 
       (λ i l m. absurd (omega arith))
       (λ i l m. set_if_not_clear (bit w i) (bit_below w i) (none_before (λ (j : ℕ). eqb (bit w j) 0) (64 - s) s i l (omega arith)))
 
-  pub with_run : (sums : RowSums) → with_columns sums (sums_over (word_cells w k e)) ≡ with_span square_sum (with_columns sums (sums_over (word_cells w k s))) (column k s) (column k e)
+  with_run : (sums : RowSums) → with_columns sums (sums_over (word_cells w k e)) ≡ with_span square_sum (with_columns sums (sums_over (word_cells w k s))) (column k s) (column k e)
   with_run sums =
       let before = sums_over (word_cells w k s) in
       let last : column k s + (e - s) ≡ column k e = omega (arith, end-from) in
@@ -88,7 +91,7 @@ module _ (w k s e : ℕ) (h : s ≤ 64) (found : e ≡ first_of 0 (64 - s) w s) 
       ∙ ap (with_columns (with_columns sums before)) (run-closed (k / 16) (column k s) (e - s))
       ∙ ap (with_span square_sum (with_columns sums before) (column k s)) last
 
-  pub run_not_empty : s < 64 → eqb (bit w s) 1 ≡ true → s < e
+  run_not_empty : s < 64 → eqb (bit w s) 1 ≡ true → s < e
   unfolding first_where
   run_not_empty l set =
       let p : ℕ → Bool = λ (i : ℕ). eqb (bit w i) 0 in
@@ -96,21 +99,44 @@ module _ (w k s e : ℕ) (h : s ≤ 64) (found : e ≡ first_of 0 (64 - s) w s) 
       let later : e ≡ first_where p (63 - s) (suc s) = found ∙ ap (λ n. first_where p n s) more ∙ ap (λ (b : Bool). cond b s (first_where p (63 - s) (suc s))) (not_clear_if_set (bit w s) set) in
       omega (arith, later, (found_bounds p (63 - s) (suc s)).0)
 
--- ---- the sums so far
+-- ---- one run more, from the place where the search for it begins
 
--- With those below a place, which is the next set bit or 64.
-pub record SumsBelow (w k : ℕ) (before sums : RowSums) (place : ℕ) : Type 0 where
-  pub below : place ≤ 64
-  pub set : place < 64 → eqb (bit w place) 1 ≡ true
-  pub columns : sums ≡ with_columns before (sums_over (word_cells w k place))
+module _ (w k a : ℕ) (before sums : RowSums) (below : a ≤ 64) (columns : sums ≡ with_columns before (sums_over (word_cells w k a))) where
+  -- The sums below the next set bit, or below the end of the word, are the same.
+  below_next : (s : ℕ) → s ≡ first_of 1 (64 - a) w a → sums ≡ with_columns before (sums_over (word_cells w k s))
+  below_next s found = columns ∙ ap (λ cs. with_columns before (sums_over cs)) (sym (clear_cells w k a s below found))
 
-pub at_set_bit : (w k a s : ℕ) (before sums : RowSums) → a ≤ 64 → s ≡ first_of 1 (64 - a) w a → sums ≡ with_columns before (sums_over (word_cells w k a)) → SumsBelow w k before sums s
-at_set_bit w k a s before sums h found e =
-    record {
-      below = set_below w k a s h found;
-      set = set_there w k a s h found;
-      columns = e ∙ ap (λ cs. with_columns before (sums_over cs)) (sym (clear_cells w k a s h found));
-    }
+  pub no_run : None ≡ place (first_of 1 (64 - a) w a) → sums ≡ with_columns before (sums_over (word_cells w k 64))
+  no_run none =
+      let s = first_of 1 (64 - a) w a in
+      let last : s ≡ 64 = omega (arith, past_places s none, set_below w k a s below refl) in
+      below_next s refl ∙ ap (λ n. with_columns before (sums_over (word_cells w k n))) last
+
+  module _ (s e : ℕ) (start : Some s ≡ place (first_of 1 (64 - a) w a)) (end : e ≡ unwrap_or (place (first_of 0 (64 - s) w s)) 64) where
+    start_is : s ≡ first_of 1 (64 - a) w a
+    start_is = (place_of s _ start).0
+
+    inside : s < 64
+    inside = (place_of s _ start).1
+
+    end_is : e ≡ first_of 0 (64 - s) w s
+    end_is = end ∙ place_or_64 _ (within_word 0 w s (omega (arith, inside)))
+
+    pub run_starts : s ≤ 64
+    run_starts = omega (arith, inside)
+
+    pub run_ends : e ≤ 64
+    run_ends = end_below w k s e run_starts end_is
+
+    pub run_later : a < e
+    run_later = omega (arith, set_from w k a s below start_is, run_not_empty w k s e run_starts end_is inside (set_there w k a s below start_is inside))
+
+    -- The sums with the columns below the start, which the code adds the run to.
+    pub before_run : sums ≡ with_columns before (sums_over (word_cells w k s))
+    before_run = below_next s start_is
+
+    pub after_run : with_span square_sum sums (column k s) (column k e) ≡ with_columns before (sums_over (word_cells w k e))
+    after_run = ap (λ m. with_span square_sum m (column k s) (column k e)) before_run ∙ sym (with_run w k s e run_starts end_is before)
 
 no_sums_lem : (w k : ℕ) → sums_over (word_cells w k 0) ≡ no_sums
 unfolding word_cells those cells_on sums_over

@@ -2,97 +2,60 @@
 // longest runs. Time goes by the number of words and of runs, not of cells.
 #![tactic(auto)]
 
-ghost use Rattle.std.specs.Prelude.{◌≡◌, false, []};
+ghost use Rattle.std.specs.Prelude.{◌≡◌, false};
 ghost use Rattle.outline.specs.EdgeSums.{plus, exceed, outline_bounds};
-ghost use Rattle.mask_cells.specs.MaskCalls.{wrong_length, mask_totals_call, mask_runs_call};
-ghost use Rattle.masks.specs.MaskAnswers.{totals_reading, runs_reading};
-ghost use Rattle.masks.specs.private.Scan.{decision};
+ghost use Rattle.cell_ground.specs.Ground.{ground_of};
+ghost use Rattle.mask_cells.specs.MaskCells.{marked_cells};
+ghost use Rattle.mask_cells.specs.MaskCalls.{mask_totals_call, mask_runs_call};
+ghost use Rattle.masks.specs.MaskAnswers.{length_number, runs_number, totals_reading, runs_reading};
+ghost use Rattle.masks.specs.private.Scan.{to_write};
 
+mod mask;
 mod rows;
 mod scan;
 
 use cells::Run;
-use integers::lesser;
-use outline::Totals;
-use outline_answers::no_totals;
-use square_table::square_sums;
+use mask::Mask;
+use outline::{Totals, ZEROS};
+use refusals::Refusal;
+use square_table::SquareSums;
 
-// The totals of the ground under the marked cells, or the mask has a wrong length (refusal 31).
-#[derive(Clone, Copy)]
-pub enum MaskTotalsAnswer {
-    Accepted(Totals),
-    WrongLength,
-}
+// The mask is no whole number of rows, or has more than 1,024.
+#[derive(Clone, Copy, Debug, PartialEq, Eq)]
+pub struct WrongLength;
 
-impl MaskTotalsAnswer {
-    // The number of the refusal in document 02, 0 where there is none.
-    pub fn number(self) -> u32
-        ensures { result ≡ (totals_reading self).number }
-    {
-        match self {
-            MaskTotalsAnswer::Accepted(_) => 0,
-            MaskTotalsAnswer::WrongLength => 31,
-        }
-    }
+impl Refusal for WrongLength {
+    ghost numbered = { length_number };
 
-    // Zeros with a refusal.
-    pub fn totals(self) -> Totals
-        ensures { result ≡ (totals_reading self).totals }
-    {
-        match self {
-            MaskTotalsAnswer::Accepted(totals) => totals,
-            MaskTotalsAnswer::WrongLength => no_totals(),
-        }
+    fn number(self) -> u32 {
+        31
     }
 }
 
-// How many runs were written; or the mask has a wrong length (refusal 31), or too many runs (refusal 8).
-#[derive(Clone, Copy)]
-pub enum MaskRunsAnswer {
-    Written(usize),
+// Why no run of a mask is written.
+#[derive(Clone, Copy, Debug, PartialEq, Eq)]
+pub enum MaskRunsRefusal {
     WrongLength,
     TooManyRuns,
 }
 
-impl MaskRunsAnswer {
-    // The number of the refusal in documents 01 and 02, 0 where there is none. It does not depend on the list.
-    pub fn number(self) -> u32
-        ensures { result ≡ (runs_reading self []).number }
-    {
-        match self {
-            MaskRunsAnswer::Written(_) => 0,
-            MaskRunsAnswer::WrongLength => 31,
-            MaskRunsAnswer::TooManyRuns => 8,
-        }
-    }
+impl Refusal for MaskRunsRefusal {
+    ghost numbered = { runs_number };
 
-    // 0 with a refusal.
-    pub fn count(self) -> usize
-        ensures { result ≡ (runs_reading self []).count }
-    {
+    fn number(self) -> u32 {
         match self {
-            MaskRunsAnswer::Written(count) => count,
-            MaskRunsAnswer::WrongLength => 0,
-            MaskRunsAnswer::TooManyRuns => 0,
+            MaskRunsRefusal::WrongLength => 31,
+            MaskRunsRefusal::TooManyRuns => 8,
         }
     }
 }
 
-// What the writer answers, and how many runs it is to write.
-#[derive(Clone, Copy)]
-struct Decision {
-    answer: MaskRunsAnswer,
-    count: usize,
-}
+impl From<WrongLength> for MaskRunsRefusal {
+    ghost from_gives = { λ _ refusal. runs_number refusal ≡ 31 };
 
-// Refusal 31, of a number of words.
-fn wrong_length(length: usize) -> bool
-    ensures { result ≡ wrong_length length }
-{
-    if length % 16 != 0 {
-        return true;
+    fn from(_refusal: WrongLength) -> MaskRunsRefusal {
+        MaskRunsRefusal::WrongLength
     }
-    1024 < length / 16
 }
 
 // Within the bounds every sum fits.
@@ -111,59 +74,46 @@ fn add_totals(s: Totals, t: Totals) -> Totals
     }
 }
 
-// The six totals of the ground under the marked cells. The table of square sums is built once a call.
-pub fn mask_totals(words: &[u64]) -> MaskTotalsAnswer
+// The totals of the ground under the marked cells, row by row. The table of square sums is built once.
+fn ground(mask: Mask) -> Totals
+    ensures { result ≡ ground_of (marked_cells mask.entry.words.now) }
+{
+    let squares = SquareSums::new();
+    let mut totals = ZEROS;
+    for y in 0..mask.words.len() / 16 {
+        let row = &mask.words[y * 16..y * 16 + 16];
+        totals = add_totals(totals, rows::totals_of_row(row, y, &squares));
+    }
+    totals
+}
+
+// The six totals of the ground under the marked cells.
+pub fn mask_totals(words: &[u64]) -> Result<Totals, WrongLength>
     ensures { totals_reading result ≡ mask_totals_call words.now }
 {
-    if wrong_length(words.len()) {
-        return MaskTotalsAnswer::WrongLength;
-    }
-    let squares = square_sums();
-    let mut totals = no_totals();
-    let mut row = 0;
-    while row < words.len() / 16 {
-        totals = add_totals(totals, rows::totals_of_row(words, row, &squares));
-        row += 1;
-    }
-    MaskTotalsAnswer::Accepted(totals)
+    let mask = Mask::new(words)?;
+    Ok(ground(mask))
 }
 
-// All runs are counted before the first is written. `held` is how many the caller's list holds.
-fn decide(words: &[u64], held: usize) -> Decision
-    ensures { result ≡ decision words.now held }
+// How many runs are to be written to a list that holds `held`: all are counted before the first is written.
+#[tactic(auto, using(crate::proofs::Written::too_many_runs, crate::proofs::Written::all_runs))]
+fn runs_to_write(mask: Mask, held: usize) -> Result<usize, MaskRunsRefusal>
+    ensures { result ≡ to_write mask.entry.words.now held }
 {
-    if wrong_length(words.len()) {
-        return Decision {
-            answer: MaskRunsAnswer::WrongLength,
-            count: 0,
-        };
-    }
-    let most = lesser(held, 4096);
-    let count = scan::count_runs(words, most);
+    let most = held.min(4096);
+    let count = scan::count_runs(mask, most);
     if most < count {
-        return Decision {
-            answer: MaskRunsAnswer::TooManyRuns,
-            count: 0,
-        };
+        return Err(MaskRunsRefusal::TooManyRuns);
     }
-    Decision {
-        answer: MaskRunsAnswer::Written(count),
-        count,
-    }
+    Ok(count)
 }
 
-// The longest runs of the marked cells, written to the front of the caller's list. Thin: what is decided and which run comes next is told by functions of their own.
-pub fn mask_runs(words: &[u64], runs: &mut [Run]) -> MaskRunsAnswer
+// The longest runs of the marked cells, written to the front of the caller's list.
+pub fn mask_runs(words: &[u64], runs: &mut [Run]) -> Result<usize, MaskRunsRefusal>
     ensures { runs_reading result runs.new ≡ mask_runs_call words.now runs.old }
 {
-    let decision = decide(words, runs.len());
-    let mut at = 0;
-    let mut i = 0;
-    while i < decision.count {
-        let found = scan::next_run(words, at);
-        runs[i] = found.run;
-        at = found.next;
-        i += 1;
-    }
-    decision.answer
+    let mask = Mask::new(words)?;
+    let count = runs_to_write(mask, runs.len())?;
+    scan::write_runs(mask, &mut runs[..count]);
+    Ok(count)
 }

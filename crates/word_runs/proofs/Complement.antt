@@ -6,7 +6,7 @@ use native.Mathlib.Numerals.{one-add}
 use native.Mathlib.Omega.{arith}
 use lib.Dec.{eqb}
 use lib.Pow.{shr-shr}
-use Rattle.word_runs.specs.Bits.{bit, first_of}
+use Rattle.word_runs.specs.Bits.{bit, first_of, place}
 use Rattle.integers.proofs.Searches.{same_search}
 
 -- The next bit is the same bit of half the number.
@@ -41,7 +41,8 @@ one_or_zero (suc zero) (suc c) h = absurd (omega arith)
 one_or_zero (suc (suc b)) c h = absurd (omega arith)
 
 -- The first set bit of the complement is the first clear bit of the word.
-pub clear_is : (w i : ℕ) → w < 2 ^ 64 → first_of 1 (64 - i) (2 ^ 64 - 1 - w) i ≡ first_of 0 (64 - i) w i
+pub clear_is : (w i : ℕ) → w < 2 ^ 64 → place (first_of 1 (64 - i) (2 ^ 64 - 1 - w) i) ≡ place (first_of 0 (64 - i) w i)
 clear_is w i h =
-    same_search (λ (k : ℕ). eqb (bit (2 ^ 64 - 1 - w) k) 1) (λ (k : ℕ). eqb (bit w k) 0) (64 - i) i
-    (λ k l m. one_or_zero (bit (2 ^ 64 - 1 - w) k) (bit w k) (either 64 w k h (omega arith)))
+    ap place
+    (same_search (λ (k : ℕ). eqb (bit (2 ^ 64 - 1 - w) k) 1) (λ (k : ℕ). eqb (bit w k) 0) (64 - i) i
+    (λ k l m. one_or_zero (bit (2 ^ 64 - 1 - w) k) (bit w k) (either 64 w k h (omega arith))))

@@ -3,3 +3,4 @@ mod Complement
 mod Zeros
 pub mod WordSearch
 mod WorkedBits
+pub mod Places

@@ -6,8 +6,10 @@ use native.Mathlib.Nat.{le_trans}
 use native.Mathlib.Omega.{arith}
 use lib.Dec.{eqb}
 use lib.ListN.{get_or}
-use Rattle.word_runs.specs.Bits.{bit, first_of}
+use Rattle.std.specs.Prelude.{None, Some}
+use Rattle.word_runs.specs.Bits.{bit, first_of, place}
 use Rattle.word_runs.specs.private.WordList.{bit_at, first_bit}
+use Rattle.word_runs.proofs.Places.{place_of, past_places}
 use Rattle.integers.proofs.Searches.{found_bounds, goes_on, is_found, moved}
 
 -- ---- in one word
@@ -28,31 +30,30 @@ word_part ws v w c h =
     moved (λ (k : ℕ). eqb (bit_at ws k) v) (λ (k : ℕ). eqb (bit (get_or ws w 0) k) v) (w * 64) (64 - c) c
     (λ k l. ap (λ (b : ℕ). eqb b v) (bit_of_word ws w k (omega arith)))
 
--- ---- in the word that a place lies in, of a search that ends with a word
+-- ---- in the word that a place lies in, of a search that goes on to the end of the word at least
 
-module _ (ws : List ℕ) (v at end : ℕ) (inside : at < end) (whole : end % 64 ≡ 0) where
-  start : at / 64 * 64 + at % 64 ≡ at
-  start = omega arith
-
-  split : end - at ≡ 64 - at % 64 + (end - (at / 64 * 64 + 64))
+module _ (ws : List ℕ) (v w i at end : ℕ) (start : w * 64 + i ≡ at) (below : i < 64) (inside : w * 64 + 64 ≤ end) where
+  split : end - at ≡ 64 - i + (end - (w * 64 + 64))
   split = omega arith
 
-  here : first_bit v ws (64 - at % 64) at ≡ at / 64 * 64 + first_of v (64 - at % 64) (get_or ws (at / 64) 0) (at % 64)
-  here = ap (first_bit v ws (64 - at % 64)) (sym start) ∙ word_part ws v (at / 64) (at % 64) (omega arith)
+  here : first_bit v ws (64 - i) at ≡ w * 64 + first_of v (64 - i) (get_or ws w 0) i
+  here = ap (first_bit v ws (64 - i)) (sym start) ∙ word_part ws v w i (omega arith)
 
   -- Found in this word.
-  pub found_here : (k : ℕ) → k ≡ first_of v (64 - at % 64) (get_or ws (at / 64) 0) (at % 64) → k < 64 → at / 64 * 64 + k ≡ first_bit v ws (end - at) at
-  found_here k e h =
-      let place : first_bit v ws (64 - at % 64) at ≡ at / 64 * 64 + k = here ∙ ap (λ (x : ℕ). at / 64 * 64 + x) (sym e) in
-      let least : first_bit v ws (64 - at % 64) at < at + (64 - at % 64) = omega arith in
-      sym (ap (λ (n : ℕ). first_bit v ws n at) split ∙ is_found (λ (x : ℕ). eqb (bit_at ws x) v) (64 - at % 64) (end - (at / 64 * 64 + 64)) at least ∙ place)
+  pub found_here : (k : ℕ) → Some k ≡ place (first_of v (64 - i) (get_or ws w 0) i) → w * 64 + k ≡ first_bit v ws (end - at) at
+  found_here k e =
+      let (is, inside_word) = place_of k _ e in
+      let found : first_bit v ws (64 - i) at ≡ w * 64 + k = here ∙ ap (λ (x : ℕ). w * 64 + x) (sym is) in
+      let least : first_bit v ws (64 - i) at < at + (64 - i) = omega arith in
+      sym (ap (λ (n : ℕ). first_bit v ws n at) split ∙ is_found (λ (x : ℕ). eqb (bit_at ws x) v) (64 - i) (end - (w * 64 + 64)) at least ∙ found)
 
   -- Not in this word.
-  pub not_here : (k : ℕ) → k ≡ first_of v (64 - at % 64) (get_or ws (at / 64) 0) (at % 64) → k ≡ 64
-      → first_bit v ws (end - at) at ≡ first_bit v ws (end - (at / 64 * 64 + 64)) (at / 64 * 64 + 64)
-  not_here k e h =
-      let last : at / 64 * 64 + 64 ≡ at + (64 - at % 64) = omega arith in
-      let none : first_bit v ws (64 - at % 64) at ≡ at + (64 - at % 64) = here ∙ ap (λ (x : ℕ). at / 64 * 64 + x) (sym e ∙ h) ∙ last in
+  pub not_here : None ≡ place (first_of v (64 - i) (get_or ws w 0) i) → first_bit v ws (end - at) at ≡ first_bit v ws (end - (w * 64 + 64)) (w * 64 + 64)
+  not_here e =
+      let last : w * 64 + 64 ≡ at + (64 - i) = omega arith in
+      let most = within_word v (get_or ws w 0) i (omega arith) in
+      let past : first_of v (64 - i) (get_or ws w 0) i ≡ 64 = omega (arith, most, past_places _ e) in
+      let none : first_bit v ws (64 - i) at ≡ at + (64 - i) = here ∙ ap (λ (x : ℕ). w * 64 + x) past ∙ last in
       ap (λ (n : ℕ). first_bit v ws n at) split
-      ∙ goes_on (λ (x : ℕ). eqb (bit_at ws x) v) (64 - at % 64) (end - (at / 64 * 64 + 64)) at none
-      ∙ ap (first_bit v ws (end - (at / 64 * 64 + 64))) (sym last)
+      ∙ goes_on (λ (x : ℕ). eqb (bit_at ws x) v) (64 - i) (end - (w * 64 + 64)) at none
+      ∙ ap (first_bit v ws (end - (w * 64 + 64))) (sym last)

@@ -10,16 +10,15 @@ use lib.ListN.{length, take, drop}
 use Rattle.std.proofs.lemmas.List.{take_all, drop_all}
 use Rattle.cells.specs.declared.Run.{Run}
 use Rattle.mask_cells.specs.MaskCalls.{mask_runs_call}
-use Rattle.masks.specs.declared.MaskRunsAnswer.{MaskRunsAnswer}
-use Rattle.masks.specs.declared.MaskRunsAnswer.TheVariants.{Written, WrongLength, TooManyRuns}
+use Rattle.std.specs.Prelude.{Result, Ok, Err}
+use Rattle.masks.specs.declared.MaskRunsRefusal.{MaskRunsRefusal}
 use Rattle.masks.specs.MaskAnswers.{runs_reading}
 use Rattle.mask_array.specs.ArrayCall.{followed_by, array_call}
 use Rattle.mask_array.proofs.mask_runs_of.Goals as goal
 
-followed : (r : MaskRunsAnswer) (l others : List Run) → runs_reading r (l ++ others) ≡ followed_by (runs_reading r l) others
-followed (Written n) l others = refl
-followed WrongLength l others = refl
-followed TooManyRuns l others = refl
+followed : (r : Result ℕ MaskRunsRefusal) (l others : List Run) → runs_reading r (l ++ others) ≡ followed_by (runs_reading r l) others
+followed (Ok n) l others = refl
+followed (Err r) l others = refl
 
 -- Past the end of the array nothing more is lent.
 same_parts : (xs : List Run) (k n : ℕ) → length xs ≡ 4097 → n ≡ min k 4097 → (take n xs ≡ take k xs) × (drop n xs ≡ drop k xs)
@@ -34,11 +33,11 @@ same_parts xs k n len e = go (leb 4097 k) (leb-true 4097 k) (leb-false 4097 k)
         let same : n ≡ k = omega arith in
         (rw same, rw same)
 
-whole_array : (ws : List ℕ) (xs : List Run) (k n : ℕ) (r : MaskRunsAnswer) (zs : List Run) → length xs ≡ 4097 → n ≡ min k 4097 → runs_reading r zs ≡ mask_runs_call ws (take n xs) → runs_reading r (zs ++ drop n xs) ≡ array_call ws xs k
+whole_array : (ws : List ℕ) (xs : List Run) (k n : ℕ) (r : Result ℕ MaskRunsRefusal) (zs : List Run) → length xs ≡ 4097 → n ≡ min k 4097 → runs_reading r zs ≡ mask_runs_call ws (take n xs) → runs_reading r (zs ++ drop n xs) ≡ array_call ws xs k
 unfolding array_call
 whole_array ws xs k n r zs len is e =
     let (lent, others) = same_parts xs k n len is in
     followed r zs (drop n xs) ∙ ap (λ o. followed_by o (drop n xs)) e ∙ (λ i. followed_by (mask_runs_call ws (lent i)) (others i))
 
 pub returns : goal.returns
-returns c = whole_array c.args.words.now c.args.runs c.args.held c.within_array-n.result c.mask_runs-answer.result c.mask_runs-answer.new.runs (omega arith) c.within_array-n.ensures c.mask_runs-answer.ensures
+returns c = whole_array c.args.words.now c.args.runs c.args.held c.min-held.result c.mask_runs-answer.result c.mask_runs-answer.new.runs (omega arith) c.min-held.ensures c.mask_runs-answer.ensures

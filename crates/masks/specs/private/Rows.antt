@@ -1,7 +1,9 @@
 -- The sums over cells of a row as the code takes them, and how large they get.
-use Rattle.std.specs.Prelude.{ℕ, ◌*◌, ◌≤◌, ◌^◌, pos, nat_abs, ◌+ℤ◌, ◌-ℤ◌}
+use Rattle.std.specs.Prelude.{ℕ, ◌*◌, ◌≤◌, ◌^◌, List, pos, nat_abs, ◌+ℤ◌, ◌-ℤ◌}
+use Rattle.outline.specs.declared.Totals.{Totals}
 use Rattle.column_sums.specs.SumsBelow.{index_sum}
-use Rattle.cell_ground.specs.CellSums.{CellSums}
+use Rattle.cell_ground.specs.CellSums.{Cell, CellSums, sums_over}
+use Rattle.cell_ground.specs.Ground.{ground_totals, row_sums}
 use Rattle.masks.specs.declared.rows.RowSums.{RowSums}
 
 -- Of six sums: the number of cells, and the sums of x and of x².
@@ -25,3 +27,7 @@ pub record RowWithin (n : ℕ) (s : RowSums) : Type 0 where
   pub count : nat_abs s.count ≤ n
   pub x : nat_abs s.x ≤ n * 2 ^ 10
   pub xx : nat_abs s.xx ≤ n * 2 ^ 20
+
+-- The totals of the ground under cells of row y, by the columns that the cells stand in.
+abbrev pub row_ground : ℕ → List Cell → Totals
+row_ground y cs = ground_totals (row_sums (pos y) (sums_over cs).count (sums_over cs).x (sums_over cs).xx)

@@ -1,7 +1,7 @@
 -- `masks::rows::totals_of_row` meets its contract: a row has at most 1,024 cells, so its sums fit the smaller types, and are handed on as they are.
 use mathlib.Core.Path.{◌≡◌, sym, ap, ◌∙◌, subst}
 use mathlib.Core.List.{List, [], ◌∷◌}
-use Prim.Native.Nat.{ℕ, ◌≤◌, ◌<◌, ◌^◌}
+use Prim.Native.Nat.{ℕ, ◌≤◌, ◌^◌}
 use native.Mathlib.Omega.{arith}
 use lib.Dec.{T}
 use lib.IntN.{ℤ, pos, nat_abs}
@@ -12,11 +12,11 @@ use mir.Val.{Fits, SFits, to_z, of_z}
 use Rattle.integers.proofs.SignedCode.{code}
 use Rattle.integers.proofs.SizedNumbers.{i64, Sized, sized, fits, is_plain}
 use Rattle.cell_ground.specs.CellSums.{Cell, CellSums, sums_over}
-use Rattle.cell_ground.specs.Ground.{ground_totals, ground_of, row_sums}
+use Rattle.cell_ground.specs.Ground.{ground_totals, row_sums}
 use Rattle.cell_ground.specs.private.SumBounds.{SumsWithin}
 use Rattle.cell_ground.proofs.SumLaws.{count_cells}
 use Rattle.mask_cells.specs.private.WordCells.{row_cells}
-use Rattle.mask_cells.proofs.WordGround.{row_within, row_of}
+use Rattle.mask_cells.proofs.WordGround.{row_within}
 use Rattle.masks.specs.declared.rows.RowSums.{RowSums}
 use Rattle.masks.specs.private.Rows.{three_of}
 use Rattle.masks.proofs.Kept.{kept}
@@ -36,15 +36,15 @@ module _ (z : ℤ) (h : nat_abs z ≤ 2 ^ 30) where
 
 -- ---- the sums of this row
 
-module _ (ws : List ℕ) (row : ℕ) (below : row < 1024) (found : RowSums) (is : found ≡ three_of (sums_over (row_cells ws row))) where
+module _ (ws : List ℕ) (found : RowSums) (is : found ≡ three_of (sums_over (row_cells ws 0))) where
   abbrev cells : List Cell
-  cells = row_cells ws row
+  cells = row_cells ws 0
 
   abbrev sums : CellSums
   sums = sums_over cells
 
   row_small : SumsWithin 1024 sums
-  row_small = row_within ws row below
+  row_small = row_within ws 0 (omega arith)
 
   few : length cells ≤ 1024
   few = omega (arith, row_small.count, ap nat_abs (count_cells cells))
@@ -72,23 +72,18 @@ module _ (ws : List ℕ) (row : ℕ) (below : row < 1024) (found : RowSums) (is 
 
 pub overflow_cast-sums : goal.overflow_cast-sums
 overflow_cast-sums c =
-    let s = c.row_sums-sums in
+    let s = c.of_row-sums in
     let ws = c.args.words.now in
-    subst (λ z. T (non_neg z) × Fits w16 (nat_abs z)) (sym (count_is ws c.args.row c.requires.row_bound s.result s.ensures)) (tt, omega (arith, few ws c.args.row c.requires.row_bound s.result s.ensures))
+    subst (λ z. T (non_neg z) × Fits w16 (nat_abs z)) (sym (count_is ws s.result s.ensures)) (tt, omega (arith, few ws s.result s.ensures))
 
 pub overflow_cast-sums-2 : goal.overflow_cast-sums-2
-overflow_cast-sums-2 c = let s = c.row_sums-sums in passed_fits s.result.x (x_small c.args.words.now c.args.row c.requires.row_bound s.result s.ensures)
+overflow_cast-sums-2 c = let s = c.of_row-sums in passed_fits s.result.x (x_small c.args.words.now s.result s.ensures)
 
 pub overflow_cast-sums-3 : goal.overflow_cast-sums-3
-overflow_cast-sums-3 c = let s = c.row_sums-sums in passed_fits s.result.xx (xx_small c.args.words.now c.args.row c.requires.row_bound s.result s.ensures)
+overflow_cast-sums-3 c = let s = c.of_row-sums in passed_fits s.result.xx (xx_small c.args.words.now s.result s.ensures)
 
 pub returns : goal.returns
-unfolding ground_of
 returns c =
-    let s = c.row_sums-sums in
+    let s = c.of_row-sums in
     let ws = c.args.words.now in
-    let row = c.args.row in
-    let below = c.requires.row_bound in
-    c.row_totals.ensures
-    ∙ (λ i. ground_totals (row_sums (pos row) (n_is ws row below s.result s.ensures i) (x_is ws row below s.result s.ensures i) (xx_is ws row below s.result s.ensures i)))
-    ∙ sym (ap ground_totals (row_of ws row))
+    c.row_totals.ensures ∙ (λ i. ground_totals (row_sums (pos c.args.y) (n_is ws s.result s.ensures i) (x_is ws s.result s.ensures i) (xx_is ws s.result s.ensures i)))

@@ -1,4 +1,4 @@
--- `masks::rows::add_word` meets its contract: the word's ones are as many as its marked cells, and their number fits.
+-- `masks::rows::RowSums::with_word` meets its contract: the word's ones are as many as its marked cells, and their number fits.
 use mathlib.Core.Path.{◌≡◌, sym, ap, ◌∙◌, subst}
 use Prim.Native.Nat.{ℕ, ◌≤◌, ◌<◌}
 use native.Mathlib.Omega.{arith}
@@ -16,8 +16,7 @@ use Rattle.mask_cells.proofs.WordGround.{word_within}
 use Rattle.masks.specs.declared.rows.RowSums.{RowSums}
 use Rattle.masks.specs.private.Rows.{with_columns, RowWithin}
 use Rattle.masks.proofs.Kept.{kept}
-use Rattle.masks.proofs.RunsOfWord.{zero_word}
-use Rattle.masks.proofs.rows.add_word.Goals as goal
+use Rattle.masks.proofs.rows.RowSums.with_word.Goals as goal
 
 -- ---- the sums of this word, and those before
 
@@ -64,31 +63,23 @@ module _ (word k : ℕ) (before : RowSums) (within : RowWithin 1024 before) (bel
 
 -- ---- the answers
 
-pub returns-then-word-eq0 : goal.returns-then-word-eq0
-returns-then-word-eq0 c = zero_word c.args.word c.args.k c.args.sums c.if-word-eq0.true
-
 pub overflow_add-counted : goal.overflow_add-counted
 overflow_add-counted c =
     let a = c.args in
-    let r = c.requires in
     let n = c.filled in
-    sum_fits a.sums.count (pos n.result) (before_small a.word a.k a.sums r.row_within r.k_bound n.result n.ensures) (ones_small a.word a.k a.sums r.row_within r.k_bound n.result n.ensures)
+    sum_fits a.self.count (pos n.result) (before_small a.word a.k a.self c.requires.sums (omega (arith, c.requires.k_bound)) n.result n.ensures) (ones_small a.word a.k a.self c.requires.sums (omega (arith, c.requires.k_bound)) n.result n.ensures)
 
-pub add_columns-requires : goal.add_columns-requires
-add_columns-requires c =
+pub with_columns-requires : goal.with_columns-requires
+with_columns-requires c =
     let a = c.args in
-    let r = c.requires in
     let n = c.filled in
     record {
-      row_within =
-          subst (RowWithin 1088) (sym (computed_is a.word a.k a.sums r.row_within r.k_bound n.result n.ensures)) (recounted_within a.word a.k a.sums r.row_within r.k_bound n.result n.ensures);
-      k_bound = r.k_bound;
-      squares_value = r.squares_value;
+      sums = subst (RowWithin 1088) (sym (computed_is a.word a.k a.self c.requires.sums (omega (arith, c.requires.k_bound)) n.result n.ensures)) (recounted_within a.word a.k a.self c.requires.sums (omega (arith, c.requires.k_bound)) n.result n.ensures);
+      k_bound = c.requires.k_bound;
     }
 
 pub returns : goal.returns
 returns c =
     let a = c.args in
-    let r = c.requires in
     let n = c.filled in
-    c.add_columns.ensures ∙ ap (λ s. with_columns s (sums_over (word_cells a.word a.k 64))) (computed_is a.word a.k a.sums r.row_within r.k_bound n.result n.ensures)
+    c.with_columns.ensures ∙ ap (λ s. with_columns s (sums_over (word_cells a.word a.k 64))) (computed_is a.word a.k a.self c.requires.sums (omega (arith, c.requires.k_bound)) n.result n.ensures)

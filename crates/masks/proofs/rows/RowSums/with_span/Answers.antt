@@ -1,4 +1,4 @@
--- `masks::rows::add_span` meets its contract: every step fits, whatever the table has.
+-- `masks::rows::RowSums::with_span` meets its contract: every step fits, whatever the table has.
 use mathlib.Core.Path.{◌≡◌, ◌∙◌}
 use mathlib.Core.List.{List, [], ◌∷◌}
 use Prim.Native.Nat.{ℕ, ◌≤◌, ◌<◌, ◌^◌}
@@ -13,7 +13,7 @@ use Rattle.column_sums.proofs.SumBounds.{index-sized, entry-sized}
 use Rattle.masks.specs.declared.rows.RowSums.{RowSums}
 use Rattle.masks.specs.private.Rows.{RowWithin}
 use Rattle.masks.proofs.Kept.{kept}
-use Rattle.masks.proofs.rows.add_span.Goals as goal
+use Rattle.masks.proofs.rows.RowSums.with_span.Goals as goal
 
 -- A sum, and two others whose difference is added to it.
 record Numbers : Type 0 where
@@ -62,12 +62,12 @@ module _ (sums : RowSums) (within : RowWithin 2048 sums) {e a : ℤ} where
       }
 
 pub overflow_add-result : goal.overflow_add-result
-overflow_add-result c = sum_fits (indices c.args.sums c.requires.row_within c.requires.end_bound c.requires.first_bound c.index_sum.ensures c.index_sum-2.ensures)
+overflow_add-result c = sum_fits (indices c.args.self c.requires.sums c.requires.end_bound c.requires.first_bound c.index_sum.ensures c.index_sum-2.ensures)
 
 pub returns : goal.returns
 returns c =
-    let sums = c.args.sums in
-    let within = c.requires.row_within in
+    let sums = c.args.self in
+    let within = c.requires.sums in
     let x = indices sums within c.requires.end_bound c.requires.first_bound c.index_sum.ensures c.index_sum-2.ensures in
     let xx = squares sums within c.entry_at.ensures (c.type_inv.squares _).fits c.entry_at-2.ensures (c.type_inv.squares _).fits in
     (λ i. record { count = kept sums.count (omega (arith, within.count)) i; x = sum_is x i; xx = sum_is xx i })
