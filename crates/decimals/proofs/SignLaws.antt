@@ -1,19 +1,16 @@
 -- The magnitude of a signed number, and the tests and casts around it.
-use Prim.Native.Nat.{ℕ, suc, ◌<◌}
+use Prim.Native.Nat.{ℕ, ◌<◌}
 use mathlib.Core.Path.{◌≡◌, refl, sym, ap, ◌∙◌, subst}
 use mathlib.Core.Bool.{Bool, true, false}
 use mathlib.Core.List.{◌∷◌}
 use native.Mathlib.Omega.{arith}
-use lib.IntN.{ℤ, pos, negsuc, nat_abs, ◌-ℤ◌}
+use lib.IntN.{ℤ, pos, negsuc, nat_abs}
 use lib.Signed.{mag, lt_z}
 use mir.Syntax.{w64}
 use mir.Val.{SFits, to_z, of_z}
 use mir.ValLaws.{to_z-of_z}
-use borrow.Author.Tests.{le-ltb, ltb-true}
+use borrow.Author.Tests.{ltb-true}
 use Rattle.decimals.specs.Decimal.{decimal, signed}
-
-back : (k : ℕ) → negsuc 0 -ℤ negsuc k ≡ pos k
-back k = rw (le-ltb (suc k) 1 (omega arith)) (ap pos (omega arith))
 
 -- a number below 0
 pub below : (z : ℤ) → lt_z z (pos 0) ≡ true → z ≡ negsuc (mag z)
@@ -31,18 +28,6 @@ module _ (z : ℤ) (f : SFits w64 z) where
 
   pub nat : lt_z (to_z w64 (of_z w64 z)) (pos 0) ≡ false → z ≡ pos (mag z)
   nat h = above z (subst (λ (y : ℤ). lt_z y (pos 0) ≡ false) (to_z-of_z w64 z f) h)
-
-  pub down : lt_z (to_z w64 (of_z w64 z)) (pos 0) ≡ true → negsuc 0 -ℤ to_z w64 (of_z w64 z) ≡ pos (mag z)
-  down h = ap (λ (y : ℤ). negsuc 0 -ℤ y) (to_z-of_z w64 z f ∙ neg h) ∙ back (mag z)
-
-  small : SFits w64 (pos (mag z))
-  small = record { sfits = f.sfits }
-
-  pub down_fits : lt_z (to_z w64 (of_z w64 z)) (pos 0) ≡ true → SFits w64 (negsuc 0 -ℤ to_z w64 (of_z w64 z))
-  down_fits h = subst (λ (y : ℤ). SFits w64 y) (sym (down h)) small
-
-  pub down_read : lt_z (to_z w64 (of_z w64 z)) (pos 0) ≡ true → to_z w64 (of_z w64 (negsuc 0 -ℤ to_z w64 (of_z w64 z))) ≡ pos (mag z)
-  down_read h = ap (λ (y : ℤ). to_z w64 (of_z w64 y)) (down h) ∙ to_z-of_z w64 (pos (mag z)) small
 
 -- The text of z, by its magnitude m.
 module _ (z : ℤ) (f : SFits w64 z) {m : ℕ} (e : m ≡ nat_abs (to_z w64 (of_z w64 z))) where

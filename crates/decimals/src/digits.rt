@@ -11,8 +11,8 @@ fn two_digits(out: &mut [u8], at: usize, n: u64) -> usize
     requires at_in_bounds { at + 2 ≤ length out.old }
     ensures { Written out.old at (last_digits 2 n) out.new result }
 {
-    out[at] = 48 + (n / 10) as u8;
-    out[at + 1] = 48 + (n % 10) as u8;
+    out[at] = b'0' + (n / 10) as u8;
+    out[at + 1] = b'0' + (n % 10) as u8;
     at + 2
 }
 
@@ -42,7 +42,7 @@ fn up_to_two(out: &mut [u8], at: usize, n: u64) -> usize
     ensures { Written out.old at (decimal n) out.new result }
 {
     if n < 10 {
-        out[at] = 48 + n as u8;
+        out[at] = b'0' + n as u8;
         return at + 1;
     }
     two_digits(out, at, n)

@@ -1,15 +1,15 @@
-// Numbers as decimal digits, written into a buffer that the caller lends; whether the buffer has room; the absolute value of a number.
+// Numbers as decimal digits, written into a buffer that the caller lends; whether the buffer has room.
 #![tactic(auto)]
 
 mod digits;
 
-ghost use Rattle.std.specs.Prelude.{◌≡◌, ◌+◌, ◌≤◌, ltb, pos, nat_abs, length};
+ghost use Rattle.std.specs.Prelude.{◌≡◌, ◌+◌, ◌≤◌, ltb, pos, length};
 ghost use Rattle.decimals.specs.Decimal.{decimal, signed, field};
 ghost use Rattle.decimals.specs.Buffer.{field_room, if_room, Written};
 
 use digits::up_to_twenty;
 
-const TAB: u8 = 9;
+const TAB: u8 = b'\t';
 
 // Room for a tab and a number of 64 bits.
 const FIELD_ROOM: usize = 21;
@@ -18,21 +18,7 @@ const FIELD_ROOM: usize = 21;
 pub fn lacks_room(size: usize, at: usize, room: usize) -> bool
     ensures { result ≡ ltb size (at + room) }
 {
-    if size < room {
-        return true;
-    }
-    size - room < at
-}
-
-// The absolute value, also of the least i64.
-pub fn magnitude(n: i64) -> u64
-    ensures { result ≡ nat_abs n }
-{
-    if n < 0 {
-        let m = -1 - n;
-        return m as u64 + 1;
-    }
-    n as u64
+    size < room || size - room < at
 }
 
 // The digits of n, after a minus where n is negative. Answers the place past them.
@@ -40,9 +26,9 @@ fn put_number(out: &mut [u8], at: usize, n: i64) -> usize
     requires { at + length (signed n) ≤ length out.old }
     ensures { Written out.old at (signed n) out.new result }
 {
-    let m = magnitude(n);
+    let m = n.unsigned_abs();
     if n < 0 {
-        out[at] = 45;
+        out[at] = b'-';
         return up_to_twenty(out, at + 1, m);
     }
     up_to_twenty(out, at, m)

@@ -1,5 +1,5 @@
 -- The first line from a place on, as the code reads it: by its first bytes, and by the numbers that stand at the places after them.
-use Prim.Native.Nat.{ℕ, ◌+◌, ◌≤◌}
+use Prim.Native.Nat.{ℕ, ◌+◌}
 use mathlib.Core.Path.{◌≡◌, refl, sym, ap, ◌∙◌}
 use mathlib.Core.Bool.{Bool, true, false}
 use mathlib.Core.List.{List, [], ◌∷◌, ◌++◌}
@@ -11,6 +11,8 @@ use Rattle.text_numbers.specs.Numbers.{Number, number, malformed, number_of}
 use Rattle.parsing.specs.Grammar.{fields, with_first, Form, other, is_byte, letter_of, point_of, form_of_fields, form_of}
 use Rattle.parsing.specs.ReadForm.{no_form, formed}
 use Rattle.text_numbers.specs.LeadingNumber.{sized}
+use Rattle.text_numbers.specs.declared.NumberAt.{NumberAt}
+use Rattle.std.specs.Prelude.{None, Some, ℤ}
 use Rattle.parsing.specs.private.Parts.{number_token, number_at, after_x, second_form, line_front}
 use Rattle.parsing.proofs.Tokens.{plain_token, token_split, token_size, token_over}
 use Rattle.parsing.proofs.PointLines.{second_byte, x_alone, x-over, x_tab, rest_no_tab, rest_none, y_alone, y-over, malformed-point, point-malformed}
@@ -18,38 +20,27 @@ use Rattle.parsing.proofs.FrontLaws.{formed-other, front_end, front_step, front_
 
 -- ---- the number at a place
 
-no_bytes : (ps : List ℕ) → length ps ≡ 0 → number_of ps ≡ malformed
-unfolding number_of
-no_bytes [] h = refl
-no_bytes (b ∷ ps) h = absurd (omega arith)
-
-pub number-none : (bs : List ℕ) → (number_at bs).size ≡ 0 → number_of (number_token bs) ≡ malformed
+pub number-none : (bs : List ℕ) → None ≡ number_at bs → number_of (number_token bs) ≡ malformed
 unfolding number_at sized
-number-none bs h = go (number_of (number_token bs)) refl h
+number-none bs h = go (number_of (number_token bs)) h
   where
-    go : (n : Number) → number_of (number_token bs) ≡ n → (sized n (length (number_token bs))).size ≡ 0 → n ≡ malformed
-    go (number z) e k = sym e ∙ no_bytes (number_token bs) k
-    go malformed e k = refl
+    go : (n : Number) → None ≡ sized n (length (number_token bs)) → n ≡ malformed
+    go (number z) k = absurd (cc)
+    go malformed k = refl
 
-pub record Found (bs : List ℕ) : Type 0 where
-  pub value : number_of (number_token bs) ≡ number (number_at bs).value
-  pub size : length (number_token bs) ≡ (number_at bs).size
+pub record Found (bs : List ℕ) (r : NumberAt ℤ) : Type 0 where
+  pub value : number_of (number_token bs) ≡ number r.value
+  pub size : length (number_token bs) ≡ r.size
 
-pub number_some : (bs : List ℕ) → ((number_at bs).size ≡ 0 → ⊥) → Found bs
+pub number_some : (bs : List ℕ) (r : NumberAt ℤ) → Some r ≡ number_at bs → Found bs r
 unfolding number_at sized
-number_some bs h = go (number_of (number_token bs)) refl
+number_some bs r h = go (number_of (number_token bs)) refl h
   where
-    go : (n : Number) → number_of (number_token bs) ≡ n → Found bs
-    go (number z) e = record { value = rw e; size = rw e }
-    go malformed e = absurd (h (rw e))
-
-pub number_size : (bs : List ℕ) → (number_at bs).size ≤ 5
-unfolding number_at sized
-number_size bs = go (number_of (number_token bs))
-  where
-    go : (n : Number) → (sized n (length (number_token bs))).size ≤ 5
-    go (number z) = token_size bs
-    go malformed = omega arith
+    go : (n : Number) → number_of (number_token bs) ≡ n → Some r ≡ sized n (length (number_token bs)) → Found bs r
+    go (number z) e k =
+        let is : r ≡ record { value = z; size = length (number_token bs) } = cc in
+        rw is (record { value = e; size = refl })
+    go malformed e k = absurd (cc)
 
 -- ---- a tab and a number
 

@@ -9,3 +9,4 @@ mod ReadingLaw
 mod WorkedLines
 mod FormLength
 mod ShortLines
+mod AskedForms

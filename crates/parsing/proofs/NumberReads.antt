@@ -12,6 +12,7 @@ use Rattle.newlines.proofs.Newlines.{byte_at}
 use Rattle.text_numbers.specs.Numbers.{is_digit, all_digits, is_natural, Number, negative_of, natural_of, number_of}
 use Rattle.text_numbers.specs.LeadingNumber.{leading_digits, sized, leading_number}
 use Rattle.text_numbers.specs.declared.NumberAt.{NumberAt}
+use Rattle.std.specs.Prelude.{Option, ℤ}
 use Rattle.parsing.specs.private.Parts.{number_token, number_at}
 
 signed-digits : (b : ℕ) (ds : List ℕ) → eqb b 45 ≡ true → number_of (b ∷ ds) ≡ negative_of ds
@@ -62,7 +63,7 @@ behind_minus s at h true = four-at s (at + 1) (omega arith)
 behind_minus s at h false = let e : at + 0 ≡ at = omega arith in rw e (ap (take 4) (sym (byte_at s at (omega arith))) ∙ four-at s at (omega arith))
 
 -- The number at a place, by the bytes that the code reads.
-pub number-at : (s : List ℕ) (at : ℕ) → at + 5 ≤ length s → {r : NumberAt} → (let m = eqb (get_or s at 0) 45 in let i = at + bool_byte m in r ≡ leading_number m (get_or s i 0 ∷ get_or s (i + 1) 0 ∷ get_or s (i + 2) 0 ∷ get_or s (i + 3) 0 ∷ [])) → r ≡ number_at (drop at s)
+pub number-at : (s : List ℕ) (at : ℕ) → at + 5 ≤ length s → {r : Option (NumberAt ℤ)} → (let m = eqb (get_or s at 0) 45 in let i = at + bool_byte m in r ≡ leading_number m (get_or s i 0 ∷ get_or s (i + 1) 0 ∷ get_or s (i + 2) 0 ∷ get_or s (i + 3) 0 ∷ [])) → r ≡ number_at (drop at s)
 number-at s at h e =
     let m = eqb (get_or s at 0) 45 in
     e

@@ -7,14 +7,15 @@ use lib.IntN.{ℤ}
 use lib.ListN.{length, drop, get_or}
 use lib.Seq.{drop-drop}
 use Rattle.outline.specs.declared.Kind.TheVariants.{Hole}
-use Rattle.text_numbers.specs.Numbers.{Number, number, malformed, number_of}
+use Rattle.text_numbers.specs.Numbers.{Number, number, number_of}
 use Rattle.parsing.specs.Grammar.{Form, begin, point, point_of, form_of}
 use Rattle.parsing.specs.ReadForm.{Front, no_form, formed}
 use Rattle.parsing.specs.private.Parts.{number_token, number_at, second_form, line_front}
 use Rattle.text_numbers.specs.declared.NumberAt.{NumberAt}
 use Rattle.parsing.proofs.Tokens.{token_size}
 use Rattle.newlines.proofs.Newlines.{byte_at}
-use Rattle.parsing.proofs.Fronts.{number-none, Found, number_some, number_size, y-ends, y_goes_on, y-malformed, past_x, x-malformed, x_no_tab, p_no_tab, p_line, long_line, one_byte_line}
+use Rattle.std.specs.Prelude.{None, Some}
+use Rattle.parsing.proofs.Fronts.{number-none, number_some, y-ends, y_goes_on, y-malformed, past_x, x-malformed, x_no_tab, p_no_tab, p_line, long_line, one_byte_line}
 use Rattle.parsing.proofs.HoleLines.{no_h_line, long_hole_line, hole_line}
 use Rattle.parsing.proofs.NumberReads.{four_bytes}
 
@@ -36,61 +37,64 @@ module _ (s : List ℕ) (at : ℕ) where
   pub after_p : at < length s → get_or s at 0 ≡ 80 → line_front (λ bs. form_of (80 ∷ bs)) (drop (at + 1) s) (at + 1) ≡ line_front form_of (drop at s) at
   after_p h e = sym (begins form_of 80 h e ∙ p_line (drop (at + 1) s) at)
 
--- A tab at `at`, and the number r behind it.
-pub record TabNumber (s : List ℕ) (at : ℕ) (r : NumberAt) : Type 0 where
-  pub room : at + 7 ≤ length s
-  pub tab : get_or s at 0 ≡ 9
-  pub number_is : r ≡ number_at (drop (at + 1) s)
-
-module _ {s : List ℕ} {at : ℕ} {r : NumberAt} (t : TabNumber s at r) where
+-- A tab at `at`, with room for a number behind it.
+module _ (s : List ℕ) (at : ℕ) (room : at + 7 ≤ length s) (tab : get_or s at 0 ≡ 9) where
   tab_within : at < length s
-  tab_within = omega (arith, t.room)
+  tab_within = omega (arith, room)
 
   in_line : number_end s at < length s
-  in_line = omega (arith, t.room, token_size (drop (at + 1) s))
+  in_line = omega (arith, room, token_size (drop (at + 1) s))
 
   behind : drop (length (number_token (drop (at + 1) s))) (drop (at + 1) s) ≡ get_or s (number_end s at) 0 ∷ drop (number_end s at + 1) s
   behind = drop-drop (length (number_token (drop (at + 1) s))) (at + 1) s ∙ byte_at s (number_end s at) in_line
 
+  -- There is none.
+  pub second-malformed : (n : Number) → None ≡ number_at (drop (at + 1) s) → no_form ≡ line_front (second_form n) (drop at s) at
+  second-malformed n h = sym (begins s at (second_form n) 9 tab_within tab ∙ y-malformed (drop (at + 1) s) at behind n (number-none (drop (at + 1) s) h))
+
+  pub point-malformed-x : None ≡ number_at (drop (at + 1) s) → no_form ≡ line_front (λ bs. form_of (80 ∷ bs)) (drop at s) at
+  point-malformed-x h = sym (begins s at (λ bs. form_of (80 ∷ bs)) 9 tab_within tab ∙ x-malformed (drop (at + 1) s) at behind (number-none (drop (at + 1) s) h))
+
+-- A tab at `at`, and the number r behind it.
+pub record TabNumber (s : List ℕ) (at : ℕ) (r : NumberAt ℤ) : Type 0 where
+  pub room : at + 7 ≤ length s
+  pub tab : get_or s at 0 ≡ 9
+  pub number_is : Some r ≡ number_at (drop (at + 1) s)
+
+module _ {s : List ℕ} {at : ℕ} {r : NumberAt ℤ} (t : TabNumber s at r) where
+  within : at < length s
+  within = tab_within s at t.room t.tab
+
+  past : drop (length (number_token (drop (at + 1) s))) (drop (at + 1) s) ≡ get_or s (number_end s at) 0 ∷ drop (number_end s at + 1) s
+  past = behind s at t.room t.tab
+
+  token_length : length (number_token (drop (at + 1) s)) ≡ r.size
+  token_length = (number_some (drop (at + 1) s) r t.number_is).size
+
+  token_value : number_of (number_token (drop (at + 1) s)) ≡ number r.value
+  token_value = (number_some (drop (at + 1) s) r t.number_is).value
+
   pub size_small : r.size ≤ 5
-  size_small = rw t.number_is (number_size (drop (at + 1) s))
+  size_small = omega (arith, token_length, token_size (drop (at + 1) s))
 
-  no_number : r.size ≡ 0 → number_of (number_token (drop (at + 1) s)) ≡ malformed
-  no_number h = number-none (drop (at + 1) s) (ap (λ (q : NumberAt). q.size) (sym t.number_is) ∙ h)
+  pub second_goes_on : (n : Number) → (get_or s (at + 1 + r.size) 0 ≡ 10 → ⊥) → no_form ≡ line_front (second_form n) (drop at s) at
+  second_goes_on n k = sym (begins s at (second_form n) 9 within t.tab ∙ y_goes_on (drop (at + 1) s) at past n (λ q. k (ap (λ (i : ℕ). get_or s (at + 1 + i) 0) (sym token_length) ∙ q)))
 
-  found : (r.size ≡ 0 → ⊥) → Found (drop (at + 1) s)
-  found h = number_some (drop (at + 1) s) (λ k. h (ap (λ (q : NumberAt). q.size) t.number_is ∙ k))
-
-  token_length : (r.size ≡ 0 → ⊥) → length (number_token (drop (at + 1) s)) ≡ r.size
-  token_length h = (found h).size ∙ ap (λ (q : NumberAt). q.size) (sym t.number_is)
-
-  token_value : (r.size ≡ 0 → ⊥) → number_of (number_token (drop (at + 1) s)) ≡ number r.value
-  token_value h = (found h).value ∙ ap (λ (q : NumberAt). number q.value) (sym t.number_is)
-
-  pub second-malformed : (n : Number) → r.size ≡ 0 → no_form ≡ line_front (second_form n) (drop at s) at
-  second-malformed n h = sym (begins s at (second_form n) 9 tab_within t.tab ∙ y-malformed (drop (at + 1) s) at behind n (no_number h))
-
-  pub second_goes_on : (n : Number) → (r.size ≡ 0 → ⊥) → (get_or s (at + 1 + r.size) 0 ≡ 10 → ⊥) → no_form ≡ line_front (second_form n) (drop at s) at
-  second_goes_on n h k = sym (begins s at (second_form n) 9 tab_within t.tab ∙ y_goes_on (drop (at + 1) s) at behind n (λ q. k (ap (λ (i : ℕ). get_or s (at + 1 + i) 0) (sym (token_length h)) ∙ q)))
-
-  pub second-ends : (x : ℤ) → (r.size ≡ 0 → ⊥) → get_or s (at + 1 + r.size) 0 ≡ 10 → ◌≡◌ {A = Front} (record { form = point x r.value; next = at + 1 + r.size + 1 }) (line_front (second_form (number x)) (drop at s) at)
+  pub second-ends : (x : ℤ) → get_or s (at + 1 + r.size) 0 ≡ 10 → ◌≡◌ {A = Front} (record { form = point x r.value; next = at + 1 + r.size + 1 }) (line_front (second_form (number x)) (drop at s) at)
   unfolding formed point_of
-  second-ends x h k =
-      sym (begins s at (second_form (number x)) 9 tab_within t.tab
-      ∙ (y-ends (drop (at + 1) s) at behind (number x) (ap (λ (i : ℕ). get_or s (at + 1 + i) 0) (token_length h) ∙ k)
-      ∙ (ap (λ (q : Number). formed (point_of (number x) q) (number_end s at + 1)) (token_value h)
-      ∙ ap (λ (i : ℕ). formed (point x r.value) (at + 1 + i + 1)) (token_length h))))
+  second-ends x k =
+      sym (begins s at (second_form (number x)) 9 within t.tab
+      ∙ (y-ends (drop (at + 1) s) at past (number x) (ap (λ (i : ℕ). get_or s (at + 1 + i) 0) token_length ∙ k)
+      ∙ (ap (λ (q : Number). formed (point_of (number x) q) (number_end s at + 1)) token_value
+      ∙ ap (λ (i : ℕ). formed (point x r.value) (at + 1 + i + 1)) token_length)))
 
-  pub point-malformed-x : r.size ≡ 0 → no_form ≡ line_front (λ bs. form_of (80 ∷ bs)) (drop at s) at
-  point-malformed-x h = sym (begins s at (λ bs. form_of (80 ∷ bs)) 9 tab_within t.tab ∙ x-malformed (drop (at + 1) s) at behind (no_number h))
-
-  pub point_rest : (r.size ≡ 0 → ⊥) → line_front (second_form (number r.value)) (drop (at + 1 + r.size) s) (at + 1 + r.size) ≡ line_front (λ bs. form_of (80 ∷ bs)) (drop at s) at
-  point_rest h =
-      sym (begins s at (λ bs. form_of (80 ∷ bs)) 9 tab_within t.tab
-      ∙ (past_x (drop (at + 1) s) at behind
-      ∙ (ap (λ (l : List ℕ). line_front (second_form (number_of (number_token (drop (at + 1) s)))) l (number_end s at)) (sym (byte_at s (number_end s at) in_line))
-      ∙ (ap (λ (q : Number). line_front (second_form q) (drop (number_end s at) s) (number_end s at)) (token_value h)
-      ∙ ap (λ (i : ℕ). line_front (second_form (number r.value)) (drop (at + 1 + i) s) (at + 1 + i)) (token_length h)))))
+  pub point_rest : line_front (second_form (number r.value)) (drop (at + 1 + r.size) s) (at + 1 + r.size) ≡ line_front (λ bs. form_of (80 ∷ bs)) (drop at s) at
+  point_rest =
+      sym (begins s at (λ bs. form_of (80 ∷ bs)) 9 within t.tab
+      ∙ (past_x (drop (at + 1) s) at past
+      ∙ (ap (λ (l : List ℕ). line_front (second_form (number_of (number_token (drop (at + 1) s)))) l (number_end s at)) (sym (byte_at s (number_end s at) (in_line s at t.room t.tab)))
+      ∙ (ap (λ (q : Number). line_front (second_form q) (drop (number_end s at) s) (number_end s at)) token_value
+      ∙ ap (λ (i : ℕ). line_front (second_form (number r.value)) (drop (at + 1 + i) s) (at + 1 + i)) token_length))))
 
 -- The first four bytes.
 module _ (s : List ℕ) (at : ℕ) (room : at + 4 ≤ length s) where

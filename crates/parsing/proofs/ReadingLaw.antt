@@ -2,24 +2,29 @@
 use mathlib.Core.Path.{◌≡◌, refl, sym, ◌∙◌, ap}
 use Prim.Native.Nat.{ℕ}
 use Rattle.parsing.specs.Grammar.{Form, begin, end, abandon, point, other}
-use Rattle.parsing.specs.ReadForm.{Front, reading}
+use Rattle.parsing.specs.ReadForm.{Front, asked, reading}
+use Rattle.std.specs.Prelude.{Option, None, Some}
+use Rattle.parsing.specs.declared.Line.{Line}
 use Rattle.parsing.specs.declared.LineForm.{LineForm}
-use Rattle.parsing.specs.declared.LineForm.TheVariants.{Begin, End, Abandon, Point, Other}
+use Rattle.parsing.specs.declared.LineForm.TheVariants.{Begin, End, Abandon, Point}
 
-answer : Form → ℕ → LineForm
-answer (begin kind) next = Begin kind next
-answer end next = End next
-answer abandon next = Abandon next
-answer (point x y) next = Point x y next
-answer other next = Other
+answer : Form → ℕ → Option Line
+answer (begin kind) next = Some (record { form = Begin kind; next = next })
+answer end next = Some (record { form = End; next = next })
+answer abandon next = Some (record { form = Abandon; next = next })
+answer (point x y) next = Some (record { form = Point x y; next = next })
+answer other next = None
 
-answer_of_reading : (p : LineForm) → answer (reading p).form (reading p).next ≡ p
+answer_of_reading : (p : Option Line) → answer (reading p).form (reading p).next ≡ p
 unfolding answer
-answer_of_reading (Begin kind n) = refl
-answer_of_reading (End n) = refl
-answer_of_reading (Abandon n) = refl
-answer_of_reading (Point x y n) = refl
-answer_of_reading Other = refl
+answer_of_reading None = refl
+answer_of_reading (Some line) = go line.form line.next
+  where
+    go : (form : LineForm) (next : ℕ) → answer (asked form) next ≡ Some (record { form = form; next = next })
+    go (Begin kind) n = refl
+    go End n = refl
+    go Abandon n = refl
+    go (Point x y) n = refl
 
-pub reading_one_to_one : (p q : LineForm) → reading p ≡ reading q → p ≡ q
+pub reading_one_to_one : (p q : Option Line) → reading p ≡ reading q → p ≡ q
 reading_one_to_one p q e = sym (answer_of_reading p) ∙ ap (λ (f : Front). answer f.form f.next) e ∙ answer_of_reading q

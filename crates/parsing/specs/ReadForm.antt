@@ -1,9 +1,10 @@
 -- The form of the line at a place of a chunk, in the terms of `Grammar`, and what each answer of `line_form` says in those terms.
-use Rattle.std.specs.Prelude.{ℕ, ◌+◌, List, take, drop}
+use Rattle.std.specs.Prelude.{ℕ, ◌+◌, List, take, drop, Option, None, Some}
 use Rattle.newlines.specs.LineLength.{line_length}
 use Rattle.parsing.specs.Grammar.{Form, begin, end, abandon, point, other, form_of}
 use Rattle.parsing.specs.declared.LineForm.{LineForm}
-use Rattle.parsing.specs.declared.LineForm.TheVariants.{Begin, End, Abandon, Point, Other}
+use Rattle.parsing.specs.declared.LineForm.TheVariants.{Begin, End, Abandon, Point}
+use Rattle.parsing.specs.declared.Line.{Line}
 
 -- A form, and the place where the next line begins: 0 where there is no form.
 pub record Front : Type 0 where
@@ -24,9 +25,12 @@ formed other next = no_form
 unfoldable pub form_at : List ℕ → ℕ → Front
 form_at s at = let bs = drop at s in formed (form_of (take (line_length bs) bs)) (at + line_length bs + 1)
 
-abbrev pub reading : LineForm → Front
-reading (Begin kind next) = record { form = begin kind; next = next }
-reading (End next) = record { form = end; next = next }
-reading (Abandon next) = record { form = abandon; next = next }
-reading (Point x y next) = record { form = point x y; next = next }
-reading Other = no_form
+abbrev pub asked : LineForm → Form
+asked (Begin kind) = begin kind
+asked End = end
+asked Abandon = abandon
+asked (Point x y) = point x y
+
+abbrev pub reading : Option Line → Front
+reading (Some line) = record { form = asked line.form; next = line.next }
+reading None = no_form

@@ -5,107 +5,91 @@ ghost use Rattle.parsing.specs.Grammar.{form_of};
 ghost use Rattle.parsing.specs.ReadForm.{formed, reading};
 ghost use Rattle.parsing.specs.private.Parts.{number_at, second_form, line_front};
 
-use crate::LineForm;
+use crate::{Line, LineForm};
 use outline::Kind;
 use text_numbers::{NumberAt, leading_number};
 
 // The number at `at`, where as many bytes are left as the longest takes.
-fn read_number(s: &[u8], at: usize) -> NumberAt
+fn read_number(s: &[u8], at: usize) -> Option<NumberAt<i32>>
     requires { at + 5 ≤ length s.now }
     ensures { result ≡ number_at (drop at s.now) }
 {
-    let minus = s[at] == 45;
+    let minus = s[at] == b'-';
     let i = at + minus as usize;
     leading_number(minus, s[i], s[i + 1], s[i + 2], s[i + 3])
 }
 
 // After x: a tab, y and a newline.
-fn second(s: &[u8], x: i32, at: usize) -> LineForm
+fn second(s: &[u8], x: i32, at: usize) -> Option<Line>
     requires { at + 7 ≤ length s.now }
     ensures { reading result ≡ line_front (second_form (number x)) (drop at s.now) at }
 {
-    if s[at] != 9 {
-        return LineForm::Other;
+    if s[at] != b'\t' {
+        return None;
     }
-    let n = read_number(s, at + 1);
-    let y = n.value;
-    let size = n.size;
-    if size == 0 {
-        return LineForm::Other;
+    let y = read_number(s, at + 1)?;
+    let end = at + 1 + y.size;
+    if s[end] != b'\n' {
+        return None;
     }
-    let end = at + 1 + size;
-    if s[end] != 10 {
-        return LineForm::Other;
-    }
-    LineForm::Point(x, y, end + 1)
+    Some(Line {
+        form: LineForm::Point(x, y.value),
+        next: end + 1,
+    })
 }
 
 // After P: a tab, x and the rest.
-fn point_form(s: &[u8], at: usize) -> LineForm
-    requires { at + 13 ≤ length s.now }
-    ensures { reading result ≡ line_front (λ bs. form_of (80 ∷ bs)) (drop at s.now) at }
+fn point_form(s: &[u8]) -> Option<Line>
+    requires { 14 ≤ length s.now }
+    ensures { reading result ≡ line_front (λ bs. form_of (80 ∷ bs)) (drop 1 s.now) 1 }
 {
-    if s[at] != 9 {
-        return LineForm::Other;
+    if s[1] != b'\t' {
+        return None;
     }
-    let n = read_number(s, at + 1);
-    let x = n.value;
-    let size = n.size;
-    if size == 0 {
-        return LineForm::Other;
-    }
-    second(s, x, at + 1 + size)
+    let x = read_number(s, 2)?;
+    second(s, x.value, 2 + x.size)
 }
 
-// A line of one byte, with where the next line begins.
-fn letter_form(b: u8, next: usize) -> LineForm
-    ensures { reading result ≡ formed (form_of (b ∷ [])) next }
+// A line of one byte and its newline.
+fn letter_form(b: u8) -> Option<Line>
+    ensures { reading result ≡ formed (form_of (b ∷ [])) 2 }
 {
-    if b == 66 {
-        return LineForm::Begin(Kind::Island, next);
-    }
-    if b == 69 {
-        return LineForm::End(next);
-    }
-    if b == 65 {
-        return LineForm::Abandon(next);
-    }
-    LineForm::Other
+    let form = match b {
+        b'B' => LineForm::Begin(Kind::Island),
+        b'E' => LineForm::End,
+        b'A' => LineForm::Abandon,
+        _ => return None,
+    };
+    Some(Line { form, next: 2 })
 }
 
 // A line of two bytes or more that is no point's: B, a tab, H and a newline.
-fn hole_form(s: &[u8], at: usize) -> LineForm
-    requires at_in_bounds { at + 4 ≤ length s.now }
-    requires fact { get_or s.now at 0 ≡ 80 → ⊥ }
-    requires fact_2 { get_or s.now (at + 1) 0 ≡ 10 → ⊥ }
-    ensures { reading result ≡ line_front form_of (drop at s.now) at }
+fn hole_form(s: &[u8]) -> Option<Line>
+    requires room { 4 ≤ length s.now }
+    requires no_point { get_or s.now 0 0 ≡ 80 → ⊥ }
+    requires no_letter { get_or s.now 1 0 ≡ 10 → ⊥ }
+    ensures { reading result ≡ line_front form_of s.now 0 }
 {
-    if s[at] != 66 {
-        return LineForm::Other;
+    if s[0] == b'B' && s[1] == b'\t' && s[2] == b'H' && s[3] == b'\n' {
+        Some(Line {
+            form: LineForm::Begin(Kind::Hole),
+            next: 4,
+        })
+    } else {
+        None
     }
-    if s[at + 1] != 9 {
-        return LineForm::Other;
-    }
-    if s[at + 2] != 72 {
-        return LineForm::Other;
-    }
-    if s[at + 3] != 10 {
-        return LineForm::Other;
-    }
-    LineForm::Begin(Kind::Hole, at + 4)
 }
 
-// A line of the form at `at`, where as many bytes are left as the longest takes with its newline.
-pub(crate) fn whole_form(s: &[u8], at: usize) -> LineForm
-    requires { at + 14 ≤ length s.now }
-    ensures { reading result ≡ line_front form_of (drop at s.now) at }
+// The line at the front of s, if it has a form, where there are as many bytes as the longest takes with its newline.
+pub(crate) fn front_form(s: &[u8]) -> Option<Line>
+    requires { 14 ≤ length s.now }
+    ensures { reading result ≡ line_front form_of s.now 0 }
 {
-    let b = s[at];
-    if b == 80 {
-        return point_form(s, at + 1);
+    if s[0] == b'P' {
+        point_form(s)
+    } else if s[1] == b'\n' {
+        letter_form(s[0])
+    } else {
+        hole_form(s)
     }
-    if s[at + 1] == 10 {
-        return letter_form(b, at + 2);
-    }
-    hole_form(s, at)
 }

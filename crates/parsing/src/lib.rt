@@ -2,33 +2,49 @@
 #![tactic(auto)]
 
 mod form;
-mod short;
 
 ghost use Rattle.std.specs.Prelude.{◌≡◌};
 ghost use Rattle.parsing.specs.ReadForm.{form_at, reading};
 
+use form::front_form;
 use outline::Kind;
-use short::{chosen_form, copy_few, few_left, offset_by, place_of};
 
-// The forms of a line, each with where the next line begins.
+// The longest form takes so many bytes with its newline.
+const LONGEST: usize = 14;
+
+// The forms of a line.
 #[derive(Clone, Copy)]
 pub enum LineForm {
-    Begin(Kind, usize),
-    End(usize),
-    Abandon(usize),
-    Point(i32, i32, usize),
-    Other,
+    Begin(Kind),
+    End,
+    Abandon,
+    Point(i32, i32),
 }
 
-// The form of the line at `at`, be it ended by a newline or by the end of s, with where the next line begins: past that newline, or past
+// A line that has one of the forms, and where the next line begins.
+#[derive(Clone, Copy)]
+pub struct Line {
+    pub form: LineForm,
+    pub next: usize,
+}
+
+// The line at `at`, if it has a form, be it ended by a newline or by the end of s. The next line begins past that newline, or past
 // the one that would stand there.
-pub fn line_form(s: &[u8], at: usize) -> LineForm
+pub fn line_form(s: &[u8], at: usize) -> Option<Line>
     ensures { reading result ≡ form_at s.now at }
 {
-    let few = few_left(s.len(), at);
-    let mut line = [10; 14];
-    copy_few(s, at, few, &mut line);
-    let place = place_of(few, at);
-    let form = chosen_form(s, &line, few, place);
-    offset_by(form, at - place)
+    let rest = &s[at.min(s.len())..];
+    // With fewer bytes left than the reader looks at, it reads a copy that newlines follow.
+    let mut copy = [b'\n'; LONGEST];
+    let text = if rest.len() < LONGEST {
+        copy[..rest.len()].copy_from_slice(rest);
+        &copy
+    } else {
+        rest
+    };
+    let line = front_form(text)?;
+    Some(Line {
+        next: at + line.next,
+        ..line
+    })
 }

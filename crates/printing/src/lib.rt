@@ -7,7 +7,6 @@ ghost use Rattle.decimals.specs.Buffer.{field_room, Written};
 ghost use Rattle.printing.specs.Output.{totals_text, centre_text, figures_text, outline_line, refusal_line, sheet_line};
 ghost use Rattle.printing.specs.Buffer.{fitting};
 
-use centroid::CentroidAnswer;
 use decimals::{lacks_room, put_field, put_natural};
 use outline::{Sheet, Totals};
 
@@ -31,15 +30,12 @@ fn put_centre(out: &mut [u8], at: usize, t: Totals) -> usize
     requires { at + 2 * field_room ≤ length out.old }
     ensures { Written out.old at (centre_text (outline_centroid_call t)) out.new result }
 {
-    let CentroidAnswer::At(x, y) = centroid::outline_centroid(t) else {
-        out[at] = 9;
-        out[at + 1] = 45;
-        out[at + 2] = 9;
-        out[at + 3] = 45;
+    let Ok(centre) = centroid::outline_centroid(t) else {
+        out[at..at + 4].copy_from_slice(b"\t-\t-");
         return at + 4;
     };
-    let a = put_field(out, at, x);
-    put_field(out, a, y)
+    let a = put_field(out, at, centre.x);
+    put_field(out, a, centre.y)
 }
 
 // The totals and the centre, and the newline after them.
@@ -49,7 +45,7 @@ fn put_figures(out: &mut [u8], at: usize, t: Totals) -> usize
 {
     let a = put_totals(out, at, t);
     let b = put_centre(out, a, t);
-    out[b] = 10;
+    out[b] = b'\n';
     b + 1
 }
 
@@ -60,10 +56,10 @@ pub fn put_refusal(out: &mut [u8], at: usize, line: u64, number: u64) -> usize
     if lacks_room(out.len(), at, LINE_ROOM) {
         return at;
     }
-    out[at] = 82;
+    out[at] = b'R';
     let a = put_natural(out, at + 1, line);
     let b = put_natural(out, a, number);
-    out[b] = 10;
+    out[b] = b'\n';
     b + 1
 }
 
@@ -74,7 +70,7 @@ pub fn put_outline(out: &mut [u8], at: usize, outlines: u32, points: u32, t: Tot
     if lacks_room(out.len(), at, LINE_ROOM) {
         return at;
     }
-    out[at] = 79;
+    out[at] = b'O';
     let a = put_natural(out, at + 1, outlines as u64);
     let b = put_natural(out, a, points as u64);
     put_figures(out, b, t)
@@ -87,8 +83,7 @@ pub fn put_sheet(out: &mut [u8], at: usize, s: Sheet) -> usize
     if lacks_room(out.len(), at, LINE_ROOM) {
         return at;
     }
-    let t = s.totals;
-    out[at] = 83;
+    out[at] = b'S';
     let a = put_natural(out, at + 1, s.count as u64);
-    put_figures(out, a, t)
+    put_figures(out, a, s.totals)
 }

@@ -1,36 +1,18 @@
 -- The natural that four bytes begin with, case by case as the code tests them.
-use Prim.Native.Nat.{ℕ, ◌+◌, ◌-◌, ◌*◌, ◌<◌, ◌≤◌}
-use mathlib.Core.Path.{◌≡◌, refl, sym, ◌∙◌}
-use mathlib.Core.Bool.{Bool, true, false, not, ◌&&◌}
+use Prim.Native.Nat.{ℕ, ◌+◌, ◌-◌, ◌*◌, ◌<◌}
+use mathlib.Core.Path.{◌≡◌, refl}
+use mathlib.Core.Bool.{Bool, true, false, ◌&&◌}
 use mathlib.Core.List.{List, [], ◌∷◌}
 use native.Mathlib.Omega.{arith}
-use lib.Dec.{leb, ltb, eqb}
+use lib.Dec.{leb, eqb}
 use lib.ListN.{length}
-use borrow.Author.Tests.{not-true, not-false, leb-true, leb-false, le-leb, lt-leb, eq-eqb, ne_eqb}
+use borrow.Author.Tests.{eq-eqb, ne_eqb}
 use Rattle.text_numbers.specs.Numbers.{is_digit, all_digits, value_from, leading_zero, is_natural}
 use Rattle.text_numbers.specs.LeadingNumber.{leading_digits}
 use Rattle.text_numbers.specs.private.Digits.{digits_at}
-use Rattle.text_numbers.specs.declared.DigitsAt.{DigitsAt}
+use Rattle.text_numbers.specs.declared.NumberAt.{NumberAt}
+use Rattle.std.specs.Prelude.{Option, None, Some}
 use Rattle.text_numbers.proofs.LeadingDigits.{Digit, digit_bounds}
-
--- ---- one byte
-
--- What `no_digit` answers.
-pub is_digit_lem : {r : Bool} (b : ℕ) → r ≡ not (is_digit b) → r ≡ false → is_digit b ≡ true
-is_digit_lem b e h = not-false (is_digit b) (sym e ∙ h)
-
-pub is_none : {r : Bool} (b : ℕ) → r ≡ not (is_digit b) → r ≡ true → is_digit b ≡ false
-is_none b e h = not-true (is_digit b) (sym e ∙ h)
-
-pub below_digit : (b : ℕ) → b < 48 → true ≡ not (is_digit b)
-below_digit b h = rw (lt-leb 48 b h)
-
-pub above_digit : (b : ℕ) → 48 ≤ b → ltb 57 b ≡ not (is_digit b)
-above_digit b h = rw (le-leb 48 b h) (go (leb b 57) refl)
-  where
-    go : (t : Bool) → leb b 57 ≡ t → ltb 57 b ≡ not t
-    go true e = lt-leb 58 b (omega (arith, leb-true b 57 e))
-    go false e = le-leb 58 b (omega (arith, leb-false b 57 e))
 
 -- ---- digits in a row
 
@@ -54,11 +36,11 @@ module _ {a b : ℕ} (k : Digit a) (l : Digit b) (z : a ≡ 48 → ⊥) where
   two_positive = omega (arith, k.least, l.least)
 
 module _ (m : Bool) (bs : List ℕ) where
-  digits_are : (ds : List ℕ) (v : ℕ) → leading_digits bs ≡ ds → is_natural ds ≡ true → value_from 0 ds ≡ v → (m && eqb v 0) ≡ false → ◌≡◌ {A = DigitsAt} (record { value = v; size = length ds }) (digits_at m bs)
+  digits_are : (ds : List ℕ) (v : ℕ) → leading_digits bs ≡ ds → is_natural ds ≡ true → value_from 0 ds ≡ v → (m && eqb v 0) ≡ false → ◌≡◌ {A = Option (NumberAt ℕ)} (Some (record { value = v; size = length ds })) (digits_at m bs)
   unfolding digits_at
   digits_are ds v e h w p = rw (e, h, w, p)
 
-  digits-none : (ds : List ℕ) → leading_digits bs ≡ ds → is_natural ds ≡ false → ◌≡◌ {A = DigitsAt} (record { value = 0; size = 0 }) (digits_at m bs)
+  digits-none : (ds : List ℕ) → leading_digits bs ≡ ds → is_natural ds ≡ false → None ≡ (digits_at m bs)
   unfolding digits_at
   digits-none ds e h = rw (e, h)
 
@@ -69,7 +51,7 @@ never_last true false c = refl
 never_last false b c = refl
 
 module _ (m : Bool) (a b c d : ℕ) where
-  pub none_first : is_digit a ≡ false → ◌≡◌ {A = DigitsAt} (record { value = 0; size = 0 }) (digits_at m (a ∷ b ∷ c ∷ d ∷ []))
+  pub none_first : is_digit a ≡ false → None ≡ (digits_at m (a ∷ b ∷ c ∷ d ∷ []))
   unfolding leading_digits is_natural all_digits
   none_first h = digits-none m (a ∷ b ∷ c ∷ d ∷ []) [] (rw h) refl
 
@@ -79,7 +61,7 @@ module _ (m : Bool) (a b c d : ℕ) where
     one hb = rw (ha, hb)
 
     module _ (hb : is_digit b ≡ true) where
-      pub leading_zero_lem : a ≡ 48 → ◌≡◌ {A = DigitsAt} (record { value = 0; size = 0 }) (digits_at m (a ∷ b ∷ c ∷ d ∷ []))
+      pub leading_zero_lem : a ≡ 48 → None ≡ (digits_at m (a ∷ b ∷ c ∷ d ∷ []))
       unfolding leading_digits is_natural leading_zero
       leading_zero_lem e = digits-none m (a ∷ b ∷ c ∷ d ∷ []) (a ∷ b ∷ leading_digits (c ∷ d ∷ [])) (rw (ha, hb)) (rw (eq-eqb a 48 e) (never_last (all_digits (a ∷ b ∷ leading_digits (c ∷ d ∷ []))) (leb 1 (length (a ∷ b ∷ leading_digits (c ∷ d ∷ [])))) (leb (length (a ∷ b ∷ leading_digits (c ∷ d ∷ []))) 4)))
 
@@ -90,7 +72,7 @@ module _ (m : Bool) (a b c d : ℕ) where
         positive_two : 0 < 10 * a + b - 528
         positive_two = two_positive (digit_bounds a ha) (digit_bounds b hb) z
 
-        pub two : is_digit c ≡ false → ◌≡◌ {A = DigitsAt} (record { value = 10 * a + b - 528; size = 2 }) (digits_at m (a ∷ b ∷ c ∷ d ∷ []))
+        pub two : is_digit c ≡ false → ◌≡◌ {A = Option (NumberAt ℕ)} (Some (record { value = 10 * a + b - 528; size = 2 })) (digits_at m (a ∷ b ∷ c ∷ d ∷ []))
         unfolding leading_digits is_natural all_digits leading_zero value_from
         two hc = digits_are m (a ∷ b ∷ c ∷ d ∷ []) (a ∷ b ∷ []) (10 * a + b - 528) (rw (ha, hb, hc)) (rw (ha, hb, ne_eqb a 48 z)) value_two (positive m (10 * a + b - 528) positive_two)
 
@@ -101,26 +83,26 @@ module _ (m : Bool) (a b c d : ℕ) where
           positive_three : 0 < 10 * (10 * a + b - 528) + c - 48
           positive_three = next_positive (digit_bounds c hc) value_two positive_two
 
-          pub three : is_digit d ≡ false → ◌≡◌ {A = DigitsAt} (record { value = 10 * (10 * a + b - 528) + c - 48; size = 3 }) (digits_at m (a ∷ b ∷ c ∷ d ∷ []))
+          pub three : is_digit d ≡ false → ◌≡◌ {A = Option (NumberAt ℕ)} (Some (record { value = 10 * (10 * a + b - 528) + c - 48; size = 3 })) (digits_at m (a ∷ b ∷ c ∷ d ∷ []))
           unfolding leading_digits is_natural all_digits leading_zero value_from
           three hd = digits_are m (a ∷ b ∷ c ∷ d ∷ []) (a ∷ b ∷ c ∷ []) (10 * (10 * a + b - 528) + c - 48) (rw (ha, hb, hc, hd)) (rw (ha, hb, hc, ne_eqb a 48 z)) value_three (positive m (10 * (10 * a + b - 528) + c - 48) positive_three)
 
-          pub four : is_digit d ≡ true → ◌≡◌ {A = DigitsAt} (record { value = 10 * (10 * (10 * a + b - 528) + c - 48) + d - 48; size = 4 }) (digits_at m (a ∷ b ∷ c ∷ d ∷ []))
+          pub four : is_digit d ≡ true → ◌≡◌ {A = Option (NumberAt ℕ)} (Some (record { value = 10 * (10 * (10 * a + b - 528) + c - 48) + d - 48; size = 4 })) (digits_at m (a ∷ b ∷ c ∷ d ∷ []))
           unfolding leading_digits is_natural all_digits leading_zero value_from
           four hd = digits_are m (a ∷ b ∷ c ∷ d ∷ []) (a ∷ b ∷ c ∷ d ∷ []) (10 * (10 * (10 * a + b - 528) + c - 48) + d - 48) (rw (ha, hb, hc, hd)) (rw (ha, hb, hc, hd, ne_eqb a 48 z)) (next_value (digit_bounds d hd) value_three positive_three) (positive m (10 * (10 * (10 * a + b - 528) + c - 48) + d - 48) (next_positive (digit_bounds d hd) value_three positive_three))
 
 -- One digit: 0 takes no minus.
 module _ (m : Bool) (a : ℕ) (ha : is_digit a ≡ true) where
-  pub minus_zero : m ≡ true → a ≡ 48 → ◌≡◌ {A = DigitsAt} (record { value = 0; size = 0 }) (digits_at m (a ∷ []))
+  pub minus_zero : m ≡ true → a ≡ 48 → None ≡ (digits_at m (a ∷ []))
   unfolding digits_at leading_digits is_natural all_digits leading_zero value_from
   minus_zero h z = rw (ha, ha, h, z)
 
-  single : (m && eqb (a - 48) 0) ≡ false → ◌≡◌ {A = DigitsAt} (record { value = a - 48; size = 1 }) (digits_at m (a ∷ []))
+  single : (m && eqb (a - 48) 0) ≡ false → ◌≡◌ {A = Option (NumberAt ℕ)} (Some (record { value = a - 48; size = 1 })) (digits_at m (a ∷ []))
   unfolding leading_digits is_natural all_digits leading_zero value_from
   single = digits_are m (a ∷ []) (a ∷ []) (a - 48) (rw ha) (rw ha) (omega arith)
 
-  pub plain_digit : m ≡ false → ◌≡◌ {A = DigitsAt} (record { value = a - 48; size = 1 }) (digits_at m (a ∷ []))
+  pub plain_digit : m ≡ false → ◌≡◌ {A = Option (NumberAt ℕ)} (Some (record { value = a - 48; size = 1 })) (digits_at m (a ∷ []))
   plain_digit h = single (rw h)
 
-  pub not_zero : (a ≡ 48 → ⊥) → ◌≡◌ {A = DigitsAt} (record { value = a - 48; size = 1 }) (digits_at m (a ∷ []))
+  pub not_zero : (a ≡ 48 → ⊥) → ◌≡◌ {A = Option (NumberAt ℕ)} (Some (record { value = a - 48; size = 1 })) (digits_at m (a ∷ []))
   not_zero z = let k = digit_bounds a ha in single (positive m (a - 48) (omega arith))

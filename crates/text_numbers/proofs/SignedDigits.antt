@@ -5,18 +5,17 @@ use mathlib.Core.Bool.{Bool, true, false, not, ◌&&◌, cond}
 use mathlib.Core.List.{List, [], ◌∷◌}
 use native.Mathlib.Omega.{arith}
 use lib.Dec.{leb, eqb}
-use lib.IntN.{pos, neg_ℤ}
+use lib.IntN.{ℤ, pos, neg_ℤ}
 use lib.ListN.{length}
 use mir.Val.{bool_byte}
-use borrow.Author.Tests.{leb-true, eq-eqb, ne_eqb}
+use borrow.Author.Tests.{leb-true}
 use Rattle.integers.proofs.Flags.{and_left, and_right}
 use Rattle.text_numbers.specs.Numbers.{is_digit, all_digits, value_from, leading_zero, is_natural, number, malformed, negative_of, natural_of}
 use Rattle.text_numbers.specs.LeadingNumber.{leading_digits, sized, leading_number}
 use Rattle.text_numbers.specs.private.Digits.{digits_at}
-use Rattle.text_numbers.specs.declared.DigitsAt.{DigitsAt}
+use Rattle.std.specs.Prelude.{Option, None, Some}
 use Rattle.text_numbers.specs.declared.NumberAt.{NumberAt}
 use Rattle.text_numbers.proofs.LeadingDigits.{digit_bounds}
-use Rattle.text_numbers.proofs.Signs.{minus_byte}
 
 -- ---- a natural is below 10,000
 
@@ -57,55 +56,46 @@ natural_digits ds h = go (all_digits ds) refl (leb 1 (length ds)) refl (leb (len
 
 -- ---- what the code makes of the digits
 
-pub record Fitting (r : DigitsAt) : Type 0 where
+pub record Fitting (r : NumberAt ℕ) : Type 0 where
   pub value_small : r.value < 10000
   pub size_small : r.size ≤ 4
 
 -- The digits r, with a sign.
-unfoldable with_sign : Bool → DigitsAt → NumberAt
-with_sign m r = cond (eqb r.size 0) (record { value = pos 0; size = 0 }) (record { value = cond m (neg_ℤ (pos r.value)) (pos r.value); size = cond m 1 0 + r.size })
+unfoldable pub with_sign : Bool → Option (NumberAt ℕ) → Option (NumberAt ℤ)
+with_sign m None = None
+with_sign m (Some r) = Some (record { value = cond m (neg_ℤ (pos r.value)) (pos r.value); size = bool_byte m + r.size })
 
-digits_fit : (m : Bool) (bs : List ℕ) → Fitting (digits_at m bs)
-unfolding digits_at
-digits_fit m bs = go (is_natural (leading_digits bs)) refl (not (m && eqb (value_from 0 (leading_digits bs)) 0))
-  where
-    go : (t : Bool) → is_natural (leading_digits bs) ≡ t → (u : Bool) → Fitting (cond (t && u) (record { value = value_from 0 (leading_digits bs); size = length (leading_digits bs) }) (record { value = 0; size = 0 }))
-    go true e true = let n = natural_digits (leading_digits bs) e in record { value_small = n.small; size_small = n.few }
-    go true e false = record { value_small = omega arith; size_small = omega arith }
-    go false e u = record { value_small = omega arith; size_small = omega arith }
+module _ (m : Bool) (bs : List ℕ) where
+  pub ds : List ℕ
+  ds = leading_digits bs
 
-number_is : (m : Bool) (bs : List ℕ) → with_sign m (digits_at m bs) ≡ leading_number m bs
-unfolding with_sign digits_at leading_number sized negative_of natural_of
-number_is m bs = go m (is_natural ds) refl (eqb (value_from 0 ds) 0)
-  where
-    ds : List ℕ
-    ds = leading_digits bs
+  pub fits : (r : NumberAt ℕ) → Some r ≡ digits_at m bs → Fitting r
+  unfolding digits_at ds
+  fits r h = go (is_natural ds) refl (not (m && eqb (value_from 0 ds) 0)) h
+    where
+      go : (t : Bool) → is_natural ds ≡ t → (u : Bool) → Some r ≡ cond (t && u) (Some (record { value = value_from 0 ds; size = length ds })) None → Fitting r
+      go true e true k =
+          let n = natural_digits ds e in
+          let is : r ≡ record { value = value_from 0 ds; size = length ds } = cc in
+          rw is (record { value_small = n.small; size_small = n.few })
+      go true e false k = absurd (cc)
+      go false e u k = absurd (cc)
 
-    found : Bool → Bool → Bool → DigitsAt
-    found m t u = cond (t && not (m && u)) (record { value = value_from 0 ds; size = length ds }) (record { value = 0; size = 0 })
+  pub with_sign_is : with_sign m (digits_at m bs) ≡ leading_number m bs
+  unfolding with_sign digits_at leading_number sized negative_of natural_of ds
+  with_sign_is = go m (is_natural ds) (eqb (value_from 0 ds) 0)
+    where
+      go : (m t u : Bool) → with_sign m (cond (t && not (m && u)) (Some (record { value = value_from 0 ds; size = length ds })) None) ≡ sized (cond m (cond (t && not u) (number (neg_ℤ (pos (value_from 0 ds)))) malformed) (cond t (number (pos (value_from 0 ds))) malformed)) (cond m 1 0 + length ds)
+      go true true true = refl
+      go true true false = refl
+      go true false u = refl
+      go false true u = refl
+      go false false u = refl
 
-    go : (m t : Bool) → is_natural ds ≡ t → (u : Bool) → with_sign m (found m t u) ≡ sized (cond m (cond (t && not u) (number (neg_ℤ (pos (value_from 0 ds)))) malformed) (cond t (number (pos (value_from 0 ds))) malformed)) (cond m 1 0 + length ds)
-    go true true e true = refl
-    go true true e false = rw (ne_eqb (length ds) 0 (omega (arith, (natural_digits ds e).some)))
-    go true false e u = refl
-    go false true e u = rw (ne_eqb (length ds) 0 (omega (arith, (natural_digits ds e).some)))
-    go false false e u = refl
-
--- The digits r that the code has read.
-pub record ReadDigits (m : Bool) (bs : List ℕ) (r : DigitsAt) : Type 0 where
-  pub is : r ≡ digits_at m bs
-
-module _ {m : Bool} {bs : List ℕ} {r : DigitsAt} (c : ReadDigits m bs r) where
-  pub fits : Fitting r
-  fits = rw c.is (digits_fit m bs)
-
-  signed_is : with_sign m r ≡ leading_number m bs
-  signed_is = ap (with_sign m) c.is ∙ number_is m bs
-
-  pub none : r.size ≡ 0 → ◌≡◌ {A = NumberAt} (record { value = pos 0; size = 0 }) (leading_number m bs)
+  pub none : None ≡ digits_at m bs → None ≡ leading_number m bs
   unfolding with_sign
-  none h = rw (eq-eqb r.size 0 h) at signed_is
+  none e = ap (with_sign m) e ∙ with_sign_is
 
-  pub some : (r.size ≡ 0 → ⊥) → ◌≡◌ {A = NumberAt} (record { value = cond m (neg_ℤ (pos r.value)) (pos r.value); size = bool_byte m + r.size }) (leading_number m bs)
+  pub some : (r : NumberAt ℕ) → Some r ≡ digits_at m bs → ◌≡◌ {A = Option (NumberAt ℤ)} (Some (record { value = cond m (neg_ℤ (pos r.value)) (pos r.value); size = bool_byte m + r.size })) (leading_number m bs)
   unfolding with_sign
-  some h = rw (ne_eqb r.size 0 h, minus_byte m) at signed_is
+  some r e = ap (with_sign m) e ∙ with_sign_is

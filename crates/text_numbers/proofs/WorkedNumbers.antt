@@ -3,7 +3,8 @@ use mathlib.Core.Path.{◌≡◌, refl}
 use mathlib.Core.Bool.{true, false}
 use mathlib.Core.List.{List, [], ◌∷◌, map}
 use Prim.Native.Nat.{ℕ}
-use lib.IntN.{pos, negsuc}
+use lib.IntN.{ℤ, pos, negsuc}
+use Rattle.std.specs.Prelude.{Option, None, Some}
 use lib.ListN.{replicate}
 use Rattle.text_numbers.specs.Numbers.{all_digits, value_from, leading_zero, is_natural, number, malformed, negative_of, natural_of, number_of}
 use Rattle.text_numbers.specs.LeadingNumber.{leading_digits, sized, leading_number}
@@ -37,8 +38,8 @@ unfolding none number_of negative_of natural_of is_natural all_digits leading_ze
 no_numbers = refl
 
 -- 12 before a tab, behind no minus and behind one; four digits; 0 behind a minus; a tab.
-found : List NumberAt
-found = record { value = pos 12; size = 2 } ∷ record { value = negsuc 11; size = 3 } ∷ record { value = pos 1234; size = 4 } ∷ record { value = pos 0; size = 0 } ∷ record { value = pos 0; size = 0 } ∷ []
+found : List (Option (NumberAt ℤ))
+found = Some (record { value = pos 12; size = 2 }) ∷ Some (record { value = negsuc 11; size = 3 }) ∷ Some (record { value = pos 1234; size = 4 }) ∷ None ∷ None ∷ []
 
 leading :
     leading_number false (49 ∷ 50 ∷ 9 ∷ 51 ∷ [])

@@ -10,28 +10,28 @@ use Rattle.decimals.proofs.put_number.Goals as goal
 
 pub bounds-out-at : goal.bounds-out-at
 bounds-out-at c =
-    let negative : signed c.args.n ≡ 45 ∷ decimal c.magnitude-m.result = signed_below c.args.n c.ranges.n c.magnitude-m.ensures c.if-n-lt0.true in
+    let negative : signed c.args.n ≡ 45 ∷ decimal c.unsigned_abs-m.result = signed_below c.args.n c.ranges.n c.unsigned_abs-m.ensures.value c.if-n-lt0.true in
     omega (arith, ap length negative)
 
 pub up_to_twenty-requires : goal.up_to_twenty-requires
 up_to_twenty-requires c =
-    let negative : signed c.args.n ≡ 45 ∷ decimal c.magnitude-m.result = signed_below c.args.n c.ranges.n c.magnitude-m.ensures c.if-n-lt0.true in
-    fits_behind c.args.out.now c.args.at 45 (decimal c.magnitude-m.result) (omega (arith, ap length negative, c.requires))
+    let negative : signed c.args.n ≡ 45 ∷ decimal c.unsigned_abs-m.result = signed_below c.args.n c.ranges.n c.unsigned_abs-m.ensures.value c.if-n-lt0.true in
+    fits_behind c.args.out.now c.args.at 45 (decimal c.unsigned_abs-m.result) (omega (arith, ap length negative, c.requires))
 
 pub shape_of-out-then-n-lt0 : goal.shape_of-out-then-n-lt0
 shape_of-out-then-n-lt0 c = c.up_to_twenty.auto.out ∙ simp length-set
 
 pub returns-then-n-lt0 : goal.returns-then-n-lt0
 returns-then-n-lt0 c =
-    let negative : signed c.args.n ≡ 45 ∷ decimal c.magnitude-m.result = signed_below c.args.n c.ranges.n c.magnitude-m.ensures c.if-n-lt0.true in
-    rw negative (written_behind c.args.out.now c.args.at 45 (decimal c.magnitude-m.result) (omega (arith, ap length negative, c.requires)) c.up_to_twenty.ensures)
+    let negative : signed c.args.n ≡ 45 ∷ decimal c.unsigned_abs-m.result = signed_below c.args.n c.ranges.n c.unsigned_abs-m.ensures.value c.if-n-lt0.true in
+    rw negative (written_behind c.args.out.now c.args.at 45 (decimal c.unsigned_abs-m.result) (omega (arith, ap length negative, c.requires)) c.up_to_twenty.ensures)
 
 pub up_to_twenty-requires-2 : goal.up_to_twenty-requires-2
 up_to_twenty-requires-2 c =
-    let natural : signed c.args.n ≡ decimal c.magnitude-m.result = signed_above c.args.n c.ranges.n c.magnitude-m.ensures c.if-n-lt0.false in
+    let natural : signed c.args.n ≡ decimal c.unsigned_abs-m.result = signed_above c.args.n c.ranges.n c.unsigned_abs-m.ensures.value c.if-n-lt0.false in
     omega (arith, ap length natural, c.requires)
 
 pub returns : goal.returns
 returns c =
-    let natural : signed c.args.n ≡ decimal c.magnitude-m.result = signed_above c.args.n c.ranges.n c.magnitude-m.ensures c.if-n-lt0.false in
+    let natural : signed c.args.n ≡ decimal c.unsigned_abs-m.result = signed_above c.args.n c.ranges.n c.unsigned_abs-m.ensures.value c.if-n-lt0.false in
     rw natural c.up_to_twenty-2.ensures

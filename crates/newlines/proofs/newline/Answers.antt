@@ -1,22 +1,15 @@
-use mathlib.Core.Path.{◌∙◌}
-use native.Mathlib.Omega.{arith}
-use Rattle.newlines.proofs.Newlines.{ends, stops_among, goes_past}
+-- `newline` searches what is left from `at` on.
+use Rattle.std.proofs.Common.{◌≡◌, ◌+◌, ◌-◌, take, drop, length, ap, ◌∙◌, arith}
+use Rattle.std.proofs.lemmas.List.{drop_min, take_all, length-drop}
+use Rattle.newlines.specs.LineLength.{line_length}
+use Rattle.newlines.proofs.Newlines.{searched}
 use Rattle.newlines.proofs.newline.Goals as goal
 
-pub returns-then-s-i-lt8 : goal.returns-then-s-i-lt8
-returns-then-s-i-lt8 c = c.newline_by_bytes.ensures ∙ c.before.before.before.loop-i.invariant
-
-pub returns-then-k-lt8 : goal.returns-then-k-lt8
-returns-then-k-lt8 c =
-    let k = c.before.first_of_eight-k in
-    let l = c.before.before.before.before.loop-i in
-    stops_among c.before.before.before.before.before.before.args.s.now l.i 8 (omega arith) k.result k.ensures c.if-k-lt8.true ∙ l.invariant
-
-pub loop-i-preserved : goal.loop-i-preserved
-loop-i-preserved c =
-    let k = c.before.first_of_eight-k in
-    let l = c.before.before.before.before.loop-i in
-    goes_past c.before.before.before.before.before.before.args.s.now l.i 8 k.result k.ensures (omega arith) ∙ l.invariant
-
 pub returns : goal.returns
-returns c = let p = c.before in ends p.before.before.args.s.now p.loop-i.i (omega arith) ∙ p.loop-i.invariant
+returns c =
+    let s = c.args.s.now in
+    let start = c.min.result in
+    let rest : take (length s - start) (drop start s) ≡ drop c.args.at s =
+    take_all (length s - start) (drop start s) (omega (arith, length-drop start s))
+    ∙ ap (λ i. drop i s) c.min.ensures ∙ drop_min c.args.at s in
+    ap (λ n. c.args.at + n) (c.unwrap_or.ensures ∙ searched _ c.memchr.result c.memchr.ensures ∙ ap line_length rest)

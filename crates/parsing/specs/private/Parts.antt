@@ -1,5 +1,5 @@
 -- What the parts of `line_form` read: a number at the front of bytes, the rest of a point's line after its x, a line by any rule for its form, and a copy.
-use Rattle.std.specs.Prelude.{ℕ, ◌+◌, cond, List, [], ◌∷◌, ◌++◌, eqb, length, take, drop}
+use Rattle.std.specs.Prelude.{ℕ, ◌+◌, cond, List, [], ◌∷◌, ◌++◌, eqb, length, take, drop, ℤ, Option}
 use Rattle.newlines.specs.LineLength.{line_length}
 use Rattle.text_numbers.specs.Numbers.{Number, number_of}
 use Rattle.text_numbers.specs.LeadingNumber.{leading_digits, sized}
@@ -12,8 +12,8 @@ unfoldable pub number_token : List ℕ → List ℕ
 number_token [] = []
 number_token (b ∷ bs) = cond (eqb b 45) (b ∷ leading_digits (take 4 bs)) (leading_digits (take 4 (b ∷ bs)))
 
--- The value and the size of the number that bytes begin with; zeros where it is malformed.
-unfoldable pub number_at : List ℕ → NumberAt
+-- The value and the size of the number that bytes begin with; none where it is malformed.
+unfoldable pub number_at : List ℕ → Option (NumberAt ℤ)
 number_at bs = sized (number_of (number_token bs)) (length (number_token bs))
 
 -- The form of a point's line whose x is read, by the fields of what follows x: an empty one, since a tab follows, and y.
