@@ -9,8 +9,8 @@ use lib.ListN.{length, take, replicate}
 use borrow.Author.Tests.{lt-ltb, le-ltb, leb-false, ltb-true, ltb-false}
 use Rattle.integers.proofs.Flags.{both_failed}
 use Rattle.outline.specs.declared.Sheet.{Sheet}
-use Rattle.parsing.specs.declared.LineForm.{LineForm}
-use Rattle.parsing.specs.declared.LineForm.TheVariants.{Other}
+use Rattle.std.specs.Prelude.{Option, None, Some}
+use Rattle.parsing.specs.declared.Line.{Line}
 use Rattle.parsing.specs.Grammar.{form_of}
 use Rattle.newlines.specs.LineLength.{line_length}
 use Rattle.parsing.specs.ReadForm.{reading}
@@ -22,10 +22,10 @@ use Rattle.text_program.proofs.Lines.{line_size}
 use Rattle.chunk_lines.specs.private.Counting.{Counts, ending_over}
 
 -- A line of which bytes are gone has none of the forms; else its form is that of its bytes in the chunk.
-form_with_gone : (st : State) (bs : List ℕ) (form : LineForm) → (reading form).form ≡ form_of bs → (reading (cond (ltb 0 st.gone) Other form)).form ≡ form_of (gone_bytes st ++ bs)
+form_with_gone : (st : State) (bs : List ℕ) (form : Option Line) → (reading form).form ≡ form_of bs → (reading (cond (ltb 0 st.gone) None form)).form ≡ form_of (gone_bytes st ++ bs)
 form_with_gone st bs form e = go st.gone
   where
-    go : (gone : ℕ) → (reading (cond (ltb 0 gone) Other form)).form ≡ form_of (replicate gone 0 ++ bs)
+    go : (gone : ℕ) → (reading (cond (ltb 0 gone) None form)).form ≡ form_of (replicate gone 0 ++ bs)
     go zero = e
     go (suc k) = rw (lt-ltb 0 (suc k) (omega arith)) (sym (zeros_line k bs))
 
@@ -39,13 +39,13 @@ ends-here n m final = go (ltb n m) refl final
     go false e false = rw (lt-ltb m (n + 1) (omega (arith, ltb-false n m e)))
 
 -- What the code has found of the line: its form, the bytes that it takes, how many are left of the chunk, and how many of these are the line's.
-pub record Found (rest : List ℕ) (form : LineForm) (whole left size : ℕ) : Type 0 where
+pub record Found (rest : List ℕ) (form : Option Line) (whole left size : ℕ) : Type 0 where
   pub is_form : (reading form).form ≡ form_of (take (line_length rest) rest)
   pub all_bytes : whole ≡ line_length rest + 1
   pub all_left : left ≡ length rest
   pub bytes-here : size ≡ min whole left
 
-module _ (final : Bool) (st : State) (s : Sheet) {rest : List ℕ} {form : LineForm} {whole left size : ℕ} (k : Found rest form whole left size) where
+module _ (final : Bool) (st : State) (s : Sheet) {rest : List ℕ} {form : Option Line} {whole left size : ℕ} (k : Found rest form whole left size) where
   is_size : size ≡ line_size rest
   is_size = let plus_one : line_length rest + 1 ≡ suc (line_length rest) = omega arith in k.bytes-here ∙ ap₂ (λ m n. min m n) (k.all_bytes ∙ plus_one) k.all_left
 
@@ -79,6 +79,6 @@ module _ (final : Bool) (st : State) (s : Sheet) {rest : List ℕ} {form : LineF
     goes_partly e = rw (limit_test near, whole_test e, is_size)
 
     -- The line is carried out.
-    pub goes_whole : Unended false → line_step final st s rest ≡ carried_step st (carry_out (st.lines + 1) (reading (cond (ltb 0 st.gone) Other form)).form st.walk s) size
+    pub goes_whole : Unended false → line_step final st s rest ≡ carried_step st (carry_out (st.lines + 1) (reading (cond (ltb 0 st.gone) None form)).form st.walk s) size
     unfolding line_step
     goes_whole e = rw (limit_test near, whole_test e, is_size, form_with_gone st (take (line_length rest) rest) form k.is_form)

@@ -7,7 +7,6 @@ ghost use Rattle.std.specs.Prelude.{drop};
 ghost use Rattle.text_program.specs.Stream.{line_step};
 ghost use Rattle.chunk_lines.specs.Stepping.{Steps};
 
-use integers::lesser;
 use outline::Sheet;
 use parsing::line_form;
 use parts::{end_reading, line_size, part_of_line, past_limit, unended, whole_line, with_gone};
@@ -38,8 +37,8 @@ pub fn line_step(
 {
     let form = line_form(chunk, at);
     let whole = line_size(form, chunk, at);
-    let left = chunk.len() - lesser(at, chunk.len());
-    let size = lesser(whole, left);
+    let left = chunk.len().saturating_sub(at);
+    let size = whole.min(left);
     if past_limit(state, size) {
         return end_reading(state, sheet, left, out, filled);
     }

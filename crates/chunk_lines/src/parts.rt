@@ -1,6 +1,5 @@
 // The tests of a line, and what comes of each.
-ghost use Rattle.std.specs.Prelude.{◌≡◌, not, ◌&&◌, ◌||◌, cond, ◌+◌, leb, ltb, drop};
-ghost use Rattle.parsing.specs.declared.LineForm.TheVariants.{Other};
+ghost use Rattle.std.specs.Prelude.{◌≡◌, not, ◌&&◌, ◌||◌, cond, ◌+◌, leb, ltb, drop, None};
 ghost use Rattle.newlines.specs.LineLength.{line_length};
 ghost use Rattle.parsing.specs.ReadForm.{form_at, reading};
 ghost use Rattle.text_program.specs.Program.{carry_out};
@@ -12,21 +11,18 @@ use crate::Stepped;
 use lines::carry_out;
 use newlines::newline;
 use outline::{Sheet, Walk};
-use parsing::LineForm;
+use parsing::Line;
 use printing::put_refusal;
 use text_program::State;
 
 // The bytes of the line at `at`, whose form is read, counting a newline also where the input ends without one.
-pub(crate) fn line_size(form: LineForm, s: &[u8], at: usize) -> usize
+pub(crate) fn line_size(form: Option<Line>, s: &[u8], at: usize) -> usize
     requires { reading form ≡ form_at s.now at }
     ensures { result ≡ line_length (drop at s.now) + 1 }
 {
     match form {
-        LineForm::Point(_, _, next) => next - at,
-        LineForm::Begin(_, next) => next - at,
-        LineForm::Abandon(next) => next - at,
-        LineForm::End(next) => next - at,
-        LineForm::Other => newline(s, at) - at + 1,
+        Some(line) => line.next - at,
+        None => newline(s, at) - at + 1,
     }
 }
 
@@ -34,14 +30,8 @@ pub(crate) fn line_size(form: LineForm, s: &[u8], at: usize) -> usize
 pub(crate) fn past_limit(state: State, size: usize) -> bool
     ensures { result ≡ (leb 1_000_000 state.lines || ltb 33_000_000 (state.bytes + state.gone + size)) }
 {
-    if 1_000_000 <= state.lines {
-        return true;
-    }
-    let taken = state.bytes as u64 + state.gone as u64;
-    if 33_000_000 < taken {
-        return true;
-    }
-    33_000_000 - taken < size as u64
+    let taken = u64::from(state.bytes) + u64::from(state.gone);
+    1_000_000 <= state.lines || 33_000_000 < taken.saturating_add(size as u64)
 }
 
 // 10: the line that is reached is refused, and the rest of the chunk, of `left` bytes, is passed over.
@@ -54,21 +44,16 @@ pub(crate) fn end_reading(
 ) -> Stepped
     ensures { Steps (ending_over state sheet left) out.old filled out.new result }
 {
-    let p = put_refusal(out, filled, state.lines as u64 + 1, 10);
-    let walk = state.walk;
-    let ended = State {
-        lines: state.lines,
-        bytes: state.bytes,
-        gone: state.gone,
-        ended: true,
-        written: false,
-        walk,
-    };
+    let filled = put_refusal(out, filled, u64::from(state.lines) + 1, 10);
     Stepped {
-        state: ended,
+        state: State {
+            ended: true,
+            written: false,
+            ..state
+        },
         sheet,
         used: left,
-        filled: p,
+        filled,
         more: true,
     }
 }
@@ -77,10 +62,7 @@ pub(crate) fn end_reading(
 pub(crate) fn unended(whole: usize, left: usize, last: bool) -> bool
     ensures { result ≡ (ltb left whole && not last) }
 {
-    if left < whole {
-        return !last;
-    }
-    false
+    left < whole && !last
 }
 
 // Part of a line, of which `size` bytes are here: left where it may yet have a form, else only its size is kept.
@@ -98,17 +80,13 @@ pub(crate) fn part_of_line(state: State, sheet: Sheet, size: usize, filled: usiz
             more: false,
         };
     }
-    let walk = state.walk;
-    let longer = State {
-        lines: state.lines,
-        bytes: state.bytes,
-        gone,
-        ended: false,
-        written: false,
-        walk,
-    };
     Stepped {
-        state: longer,
+        state: State {
+            gone,
+            ended: false,
+            written: false,
+            ..state
+        },
         sheet,
         used: size,
         filled,
@@ -117,13 +95,10 @@ pub(crate) fn part_of_line(state: State, sheet: Sheet, size: usize, filled: usiz
 }
 
 // A line of which bytes are gone has none of the forms, whatever is left of it.
-pub(crate) fn with_gone(gone: u32, form: LineForm) -> LineForm
-    ensures { result ≡ cond (ltb 0 gone) Other form }
+pub(crate) fn with_gone(gone: u32, form: Option<Line>) -> Option<Line>
+    ensures { result ≡ cond (ltb 0 gone) None form }
 {
-    if 0 < gone {
-        return LineForm::Other;
-    }
-    form
+    if 0 < gone { None } else { form }
 }
 
 fn after_line(state: State, walk: Walk, size: usize) -> State
@@ -144,7 +119,7 @@ fn after_line(state: State, walk: Walk, size: usize) -> State
 pub(crate) fn whole_line(
     state: State,
     sheet: Sheet,
-    form: LineForm,
+    form: Option<Line>,
     size: usize,
     out: &mut [u8],
     filled: usize,
@@ -152,16 +127,19 @@ pub(crate) fn whole_line(
     requires { Counts state size }
     ensures { Steps (carried_step state (carry_out (state.lines + 1) (reading form).form state.walk sheet) size) out.old filled out.new result }
 {
-    let walk = state.walk;
-    let c = carry_out(form, walk, sheet, state.lines as u64 + 1, out, filled);
-    let walk_after = c.walk;
-    let sheet_after = c.sheet;
-    let counted = after_line(state, walk_after, size);
+    let carried = carry_out(
+        form,
+        state.walk,
+        sheet,
+        u64::from(state.lines) + 1,
+        out,
+        filled,
+    );
     Stepped {
-        state: counted,
-        sheet: sheet_after,
+        state: after_line(state, carried.walk, size),
+        sheet: carried.sheet,
         used: size,
-        filled: c.filled,
+        filled: carried.filled,
         more: true,
     }
 }

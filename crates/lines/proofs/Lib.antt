@@ -1,1 +1,2 @@
+pub mod WalkLines
 pub mod EndLines

@@ -1,2 +1,1 @@
 pub mod LineOutcome
-pub mod private

@@ -1,21 +1,21 @@
 -- What the program's loop has read and written so far: the steps of specs/LoopSteps are a run of text_program/Chunks, and each turn of the loop adds to them.
-use Prim.Native.Nat.{ℕ, ◌+◌, ◌-◌, ◌≤◌, ◌<◌}
+use Prim.Native.Nat.{ℕ, ◌+◌, ◌-◌, ◌≤◌}
 use mathlib.Core.Path.{◌≡◌, refl, sym, ap, subst, ◌∙◌}
 use mathlib.Core.Bool.{Bool, true, false, true≢false}
 use mathlib.Core.List.{List, [], ◌++◌, append_assoc, append-nil}
 use native.Mathlib.Omega.{arith}
 use lib.Dec.{eqb}
 use lib.IntN.{ℤ, pos}
-use lib.ListN.{length, take, drop, length-append, length-drop, take-append-drop}
-use lib.Seq.{drop-drop, take-add, drop_at, length-take-le}
+use lib.ListN.{length, take, drop, length-append, length-drop}
+use lib.Seq.{drop-drop, paste, take-add, length-take-le}
 use borrow.Author.Tests.{eqb-true}
-use borrow.Rule.Slice.PartMut.{mid_len}
 use Rattle.std.specs.Prelude.{Option, None, Some, IfSome}
 use Rattle.std.specs.Io.KnownBytes.{Appends, Consumes, IsAtEnd}
+use Rattle.std.proofs.lemmas.List.{drop-take}
+use Rattle.std.proofs.lemmas.List.Edits.{take-paste}
 use Rattle.std.proofs.KnownBytes.{Appends-nil, Appends-trans, Consumes-nil, Consumes-trans}
 use Rattle.outline.specs.declared.Sheet.{Sheet}
 use Rattle.outline.specs.WalkCalls.{new_sheet}
-use Rattle.decimals.specs.Buffer.{overwritten}
 use Rattle.decimals.proofs.BufferLaws.{in_front}
 use Rattle.text_program.specs.declared.State.{State}
 use Rattle.text_program.specs.Program.{program}
@@ -24,7 +24,6 @@ use Rattle.text_program.specs.Chunks.{Place, Run, here, reads, feeds, remaining_
 use Rattle.text_program.proofs.Chunks.{chunks, chunks_so_far}
 use Rattle.stream.specs.declared.Fed.{Fed}
 use Rattle.stream.specs.Feeding.{Feeds}
-use Rattle.plots.specs.declared.Received.{Received}
 use Rattle.plots.specs.Front.{AppendsFront}
 use Rattle.plots.specs.LoopSteps.{LoopSteps, none, called, received, AllWritten}
 use Rattle.plots.proofs.StillToWrite.{still_some}
@@ -83,51 +82,51 @@ stopped (Some bytes) held₀ (Some rest) held {last} {st} {s} {buffer} k w =
     (k.out, remaining_at p, k.put, all ∙ ap program (sym k.taken), still_some st s (buffer ++ rest) w)
 
 -- Where of what a call puts only a front is written: a front of that.
-pub cut_short : (unread₀ held₀ unread held held' : Option (List ℕ)) {last : Bool} {st : State} {s : Sheet} {buffer : List ℕ} (room n : ℕ) (text : List ℕ) → text ≡ (feed_call last st s buffer room).output → n < length text → Appends held held' (take n text) → SoFar unread₀ held₀ unread held last st s buffer → IfSome unread₀ (λ bytes. AppendsFront held₀ held' (program bytes))
-cut_short None held₀ unread held held' room n text t h a k = tt
-cut_short (Some bytes) held₀ None held held' room n text t h a k = absurd k.taken
-cut_short (Some bytes) held₀ (Some rest) held held' {last} {st} {s} {buffer} room n text t h a k =
+pub cut_short : (unread₀ held₀ unread held held' : Option (List ℕ)) {last : Bool} {st : State} {s : Sheet} {buffer : List ℕ} (room : ℕ) (text : List ℕ) → text ≡ (feed_call last st s buffer room).output → AppendsFront held held' text → SoFar unread₀ held₀ unread held last st s buffer → IfSome unread₀ (λ bytes. AppendsFront held₀ held' (program bytes))
+cut_short None held₀ unread held held' room text t f k = tt
+cut_short (Some bytes) held₀ None held held' room text t f k = absurd k.taken
+cut_short (Some bytes) held₀ (Some rest) held held' {last} {st} {s} {buffer} room text t (front, behind, a, e, some) k =
     let r = feed_call last st s buffer room in
     let p = place r.state r.sheet (drop r.used buffer) rest in
     let left = remaining_at p in
     let all : (k.out ++ (r.output ++ [])) ++ left ≡ program (k.input ++ rest) = chunks_so_far p (k.input ++ rest) (k.out ++ (r.output ++ [])) (then (steps-run k.steps rest k.end) (feeds last room r k.end refl here)) in
-    let put : (take n text ++ drop n text) ≡ r.output ++ [] = take-append-drop n text ∙ t ∙ sym (append-nil r.output) in
-    let joined : (k.out ++ take n text) ++ (drop n text ++ left) ≡ (k.out ++ (r.output ++ [])) ++ left =
-    sym (append_assoc (k.out ++ take n text) (drop n text) left) ∙ ap (λ l. l ++ left) (append_assoc k.out (take n text) (drop n text) ∙ ap (λ l. k.out ++ l) put) in
-    (k.out ++ take n text, drop n text ++ left, Appends-trans held₀ held held' k.out (take n text) k.put a, joined ∙ all ∙ ap program (sym k.taken), simp length-append (omega (arith, length-drop n text)))
+    let put : front ++ behind ≡ r.output ++ [] = e ∙ t ∙ sym (append-nil r.output) in
+    let joined : (k.out ++ front) ++ (behind ++ left) ≡ (k.out ++ (r.output ++ [])) ++ left =
+    sym (append_assoc (k.out ++ front) behind left) ∙ ap (λ l. l ++ left) (append_assoc k.out front behind ∙ ap (λ l. k.out ++ l) put) in
+    (k.out ++ front, behind ++ left, Appends-trans held₀ held held' k.out front k.put a, joined ∙ all ∙ ap program (sym k.taken), simp length-append (omega (arith, some)))
 
--- ---- the steps as the loop makes them, with the buffers' places `at` and `have`
+-- ---- the steps as the loop makes them, on the bytes of its buffer from `at` up to `have`
 
--- What is left of a chunk.
-left : (buf : List ℕ) (at have used : ℕ) → at + used ≤ have → have ≤ length buf → drop used (take (have - at) (drop at buf)) ≡ take (have - (at + used)) (drop (at + used) buf)
-left buf at have used h l =
+-- What a call has left of them,
+pub left : (buf : List ℕ) (at have used : ℕ) → at + used ≤ have → drop used (take (have - at) (drop at buf)) ≡ take (have - (at + used)) (drop (at + used) buf)
+left buf at have used h =
     let n = have - (at + used) in
     let sizes : have - at ≡ used + n = omega arith in
-    ap (λ k. drop used (take k (drop at buf))) sizes
-    ∙ ap (drop used) (take-add used n (drop at buf))
-    ∙ drop_at (take used (drop at buf)) (take n (drop used (drop at buf))) used (length-take-le used (drop at buf) (omega (arith, length-drop at buf)))
-    ∙ ap (take n) (drop-drop used at buf)
+    ap (λ k. drop used (take k (drop at buf))) sizes ∙ drop-take used n (drop at buf) ∙ ap (take n) (drop-drop used at buf)
 
--- A call on the bytes from `at` up to `have`, and a write of what it put at the front of `after`, the output's buffer.
-pub after_write : (unread₀ held₀ unread held held' : Option (List ℕ)) (last : Bool) (st : State) (s : Sheet) (buf : List ℕ) (at have : ℕ) (before after : List ℕ) (r : Fed) (descriptor : ℤ) (text : List ℕ) (whole : Bool) → (let chunk = take (have - at) (drop at buf) in Feeds (feed_call last st s chunk (length before)) before after r → at + r.used ≤ have → have ≤ length buf → descriptor ≡ pos 1 → text ≡ take r.filled after → whole ≡ true → Appends held held' text → SoFar unread₀ held₀ unread held last st s chunk → SoFar unread₀ held₀ unread held' last r.state r.sheet (take (have - (at + r.used)) (drop (at + r.used) buf)))
-after_write unread₀ held₀ unread held held' last st s buf at have before after r descriptor text whole f h l d t w a k =
-    let call = feed_call last st s (take (have - at) (drop at buf)) (length before) in
+-- which is moved to the front.
+pub moved : (buf after : List ℕ) (at have : ℕ) → have ≤ length buf → after ≡ paste buf 0 (drop at buf) (have - at) → take (have - at) after ≡ take (have - at) (drop at buf)
+moved buf after at have h e =
+    let n = have - at in
+    let front : n ≡ 0 + n = omega arith in
+    ap (λ b. take n b) e ∙ ap (λ k. take k (paste buf 0 (drop at buf) n)) front ∙ take-paste buf 0 (drop at buf) n (omega arith) (omega (arith, length-drop at buf))
+
+-- A call on them, and a write of what it put at the front of `after`, the output's buffer.
+pub after_write : (unread₀ held₀ unread held held' : Option (List ℕ)) (last : Bool) (st : State) (s : Sheet) (chunk before after : List ℕ) (r : Fed) (descriptor : ℤ) (text : List ℕ) (whole : Bool) → Feeds (feed_call last st s chunk (length before)) before after r → descriptor ≡ pos 1 → text ≡ take r.filled after → whole ≡ true → Appends held held' text → SoFar unread₀ held₀ unread held last st s chunk → SoFar unread₀ held₀ unread held' last r.state r.sheet (drop r.used chunk)
+after_write unread₀ held₀ unread held held' last st s chunk before after r descriptor text whole f d t w a k =
+    let call = feed_call last st s chunk (length before) in
     let size : r.filled ≡ length call.output = ap (λ (r : Fed). r.filled) f.answer in
     let written : text ≡ call.output = t ∙ in_front {n = r.filled} (record { buffer = f.buffer; end = omega (arith, size) }) in
-    let used : r.used ≡ call.used = ap (λ (r : Fed). r.used) f.answer in
-    subst (λ (r : Fed). SoFar unread₀ held₀ unread held' last r.state r.sheet (take (have - (at + r.used)) (drop (at + r.used) buf))) (sym f.answer)
-    (subst (SoFar unread₀ held₀ unread held' last call.state call.sheet) (left buf at have call.used (omega arith) l)
-    (record { input = k.input; out = k.out ++ text; steps = called (length before) call descriptor text whole refl d written w k.steps; taken = k.taken; put = Appends-trans held₀ held held' k.out text k.put a; end = k.end }))
+    subst (λ (r : Fed). SoFar unread₀ held₀ unread held' last r.state r.sheet (drop r.used chunk)) (sym f.answer)
+    (record { input = k.input; out = k.out ++ text; steps = called (length before) call descriptor text whole refl d written w k.steps; taken = k.taken; put = Appends-trans held₀ held held' k.out text k.put a; end = k.end })
 
--- The bytes from `from` up to `to` are moved to the front, and a read adds to them.
-pub after_read : (unread₀ held₀ unread unread' held : Option (List ℕ)) (st : State) (s : Sheet) (buf moved after : List ℕ) (from to n : ℕ) (r : Received) → (let bytes = take (to - from) (drop from buf) in to ≤ length buf → n ≡ to - from → moved ≡ overwritten buf 0 bytes → take n after ≡ take n moved → n + r.size ≤ length after → r.failed ≡ false → Consumes unread unread' (take r.size (drop n after)) → (r.size ≡ 0 → IsAtEnd unread') → SoFar unread₀ held₀ unread held false st s bytes → SoFar unread₀ held₀ unread' held (eqb r.size 0) st s (take (n + r.size - 0) (drop 0 after)))
-after_read unread₀ held₀ unread unread' held st s buf moved after from to n r l e m t h f c z k =
-    let bytes = take (to - from) (drop from buf) in
-    let piece = take r.size (drop n after) in
-    let front : take n after ≡ bytes = t ∙ in_front {n = n} (record { buffer = m; end = omega (arith, mid_len from to buf l, e) }) in
-    let sum : n + r.size - 0 ≡ n + r.size = omega arith in
-    let all : bytes ++ piece ≡ take (n + r.size - 0) after = ap (λ b. b ++ piece) (sym front) ∙ sym (take-add n r.size after) ∙ ap (λ i. take i after) (sym sum) in
-    let size : length piece ≡ r.size = length-take-le r.size (drop n after) (omega (arith, length-drop n after)) in
-    subst (λ i. SoFar unread₀ held₀ unread' held (eqb i 0) st s (take (n + r.size - 0) after)) size
+-- A read that adds to them, at the front.
+pub after_read : (unread₀ held₀ unread unread' held : Option (List ℕ)) (st : State) (s : Sheet) (bytes after : List ℕ) (have size : ℕ) (failed : Bool) → take have after ≡ bytes → have + size ≤ length after → failed ≡ false → Consumes unread unread' (take size (drop have after)) → (size ≡ 0 → IsAtEnd unread') → SoFar unread₀ held₀ unread held false st s bytes → SoFar unread₀ held₀ unread' held (eqb size 0) st s (take (have + size - 0) (drop 0 after))
+after_read unread₀ held₀ unread unread' held st s bytes after have size failed t h f c z k =
+    let piece = take size (drop have after) in
+    let sum : have + size - 0 ≡ have + size = omega arith in
+    let all : bytes ++ piece ≡ take (have + size - 0) after = ap (λ b. b ++ piece) (sym t) ∙ sym (take-add have size after) ∙ ap (λ i. take i after) (sym sum) in
+    let sized : length piece ≡ size = length-take-le size (drop have after) (omega (arith, length-drop have after)) in
+    subst (λ i. SoFar unread₀ held₀ unread' held (eqb i 0) st s (take (have + size - 0) after)) sized
     (subst (SoFar unread₀ held₀ unread' held (eqb (length piece) 0) st s) all
-    (record { input = k.input ++ piece; out = k.out; steps = received piece r.failed f k.steps; taken = Consumes-trans unread₀ unread unread' k.input piece k.taken c; put = k.put; end = λ e. z (sym size ∙ eqb-true (length piece) 0 e) }))
+    (record { input = k.input ++ piece; out = k.out; steps = received piece failed f k.steps; taken = Consumes-trans unread₀ unread unread' k.input piece k.taken c; put = k.put; end = λ e. z (sym sized ∙ eqb-true (length piece) 0 e) }))

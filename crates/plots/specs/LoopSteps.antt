@@ -10,7 +10,7 @@ use Rattle.text_program.specs.Stream.{Step, start, feed_call}
 -- The steps that lead to a state, a sheet and a buffer of bytes not taken yet, where `input` was read and `out` was written. `last`: the input has ended.
 pub data LoopSteps : Bool → State → Sheet → List ℕ → List ℕ → List ℕ → Type 0 where
   none : LoopSteps false start new_sheet [] [] []
-  -- A call, on what the call before it left, and a write: `write_all` was given standard output and what the call put. One that does not answer true may have written less.
+  -- A call, on what the call before it left, and a write: `write_all` was given standard output and what the call put. One that answers an error has written less.
   called : {last : Bool} {st : State} {s : Sheet} {buffer input out : List ℕ} (room : ℕ) (r : Step) (descriptor : ℤ) (text : List ℕ) (whole : Bool) → r ≡ feed_call last st s buffer room → descriptor ≡ pos 1 → text ≡ r.output → whole ≡ true → LoopSteps last st s buffer input out → LoopSteps last r.state r.sheet (drop r.used buffer) input (out ++ text)
   -- A read that did not fail, to after the bytes of the buffer. One that gives none has found the end of the input.
   received : {st : State} {s : Sheet} {buffer input out : List ℕ} (piece : List ℕ) (failed : Bool) → failed ≡ false → LoopSteps false st s buffer input out → LoopSteps (eqb (length piece) 0) st s (buffer ++ piece) (input ++ piece) out

@@ -24,40 +24,35 @@ pub struct Fed {
 pub fn start() -> State
     ensures { result ≡ start_state }
 {
-    let walk = walk_state::new_walk();
     State {
         lines: 0,
         bytes: 0,
         gone: 0,
         ended: false,
         written: false,
-        walk,
+        walk: walk_state::new_walk(),
     }
 }
 
 // Steps while they go on: a line at a time, while there is room for the longest line of the output.
-pub fn feed(state: State, sheet: Sheet, chunk: &[u8], last: bool, out: &mut [u8]) -> Fed
+pub fn feed(mut state: State, mut sheet: Sheet, chunk: &[u8], last: bool, out: &mut [u8]) -> Fed
     ensures { Feeds (feed_call last state sheet chunk.now (length out.old)) out.old out.new result }
 {
-    let mut s = state;
-    let mut sh = sheet;
-    let mut at = 0;
+    let mut used = 0;
     let mut filled = 0;
-    let mut more = true;
-    while more {
-        let r = step(s, sh, chunk, at, last, out, filled);
-        let state_after = r.state;
-        let sheet_after = r.sheet;
-        s = state_after;
-        sh = sheet_after;
-        at += r.used;
-        filled = r.filled;
-        more = r.more;
-    }
-    Fed {
-        state: s,
-        sheet: sh,
-        used: at,
-        filled,
+    loop {
+        let stepped = step(state, sheet, chunk, used, last, out, filled);
+        state = stepped.state;
+        sheet = stepped.sheet;
+        used += stepped.used;
+        filled = stepped.filled;
+        if !stepped.more {
+            return Fed {
+                state,
+                sheet,
+                used,
+                filled,
+            };
+        }
     }
 }

@@ -26,21 +26,16 @@ fn halt(state: State, sheet: Sheet, filled: usize) -> Stepped
 fn close(state: State, sheet: Sheet, out: &mut [u8], filled: usize) -> Stepped
     ensures { Steps (closing state sheet) out.old filled out.new result }
 {
-    let p = put_sheet(out, filled, sheet);
-    let walk = state.walk;
-    let closed = State {
-        lines: state.lines,
-        bytes: state.bytes,
-        gone: state.gone,
-        ended: true,
-        written: true,
-        walk,
-    };
+    let filled = put_sheet(out, filled, sheet);
     Stepped {
-        state: closed,
+        state: State {
+            ended: true,
+            written: true,
+            ..state
+        },
         sheet,
         used: 0,
-        filled: p,
+        filled,
         more: false,
     }
 }
@@ -49,26 +44,14 @@ fn close(state: State, sheet: Sheet, out: &mut [u8], filled: usize) -> Stepped
 fn at_end(state: State, last: bool, left: usize) -> bool
     ensures { result ≡ (state.ended || (last && (eqb left 0 && eqb state.gone 0))) }
 {
-    if state.ended {
-        return true;
-    }
-    if !last {
-        return false;
-    }
-    if left != 0 {
-        return false;
-    }
-    state.gone == 0
+    state.ended || last && left == 0 && state.gone == 0
 }
 
 // More of the input must be read.
 fn waits(last: bool, left: usize) -> bool
     ensures { result ≡ (not last && eqb left 0) }
 {
-    if last {
-        return false;
-    }
-    left == 0
+    !last && left == 0
 }
 
 pub(crate) fn step(

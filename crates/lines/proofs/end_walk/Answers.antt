@@ -1,9 +1,11 @@
 -- `end_walk` meets its contract, by the two cases of the answer of `end`.
-use Rattle.lines.proofs.EndLines.{accepted-end, refused_end_lem}
+use Rattle.lines.proofs.EndLines.{accepted_end, refused_end}
 use Rattle.lines.proofs.end_walk.Goals as goal
+use Rattle.lines.proofs.end_walk.Goals.{in-Ok, in-Err}
 
-pub returns-in-Accepted : goal.returns-in-Accepted
-returns-in-Accepted c = accepted-end c.args.line c.args.w.count c.end-r.result.answer c.end-r.ensures c.in-Accepted.is c.put_outline-filled.ensures
-
-pub returns-in_default : goal.returns-in_default
-returns-in_default c = refused_end_lem c.args.line c.args.w.count c.end-r.result.answer c.end-r.ensures c.in_default.not-Accepted (rw c.number.ensures at c.put_refusal-filled.ensures)
+pub returns : goal.returns
+returns c =
+    elim c.match-reply.branch [
+      | in-Ok w ↦ rw (w.out-is, w.filled-is) (accepted_end c.args.line c.args.w.count c.end-reply.result.answer c.end-reply.ensures w.in-Ok.ended w.in-Ok.is w.put_outline-filled.ensures)
+      | in-Err w ↦ rw (w.out-is, w.filled-is) (refused_end c.args.line c.args.w.count c.end-reply.result.answer c.end-reply.ensures w.in-Err.refused w.in-Err.is (rw (w.from.ensures, w.number.ensures) at w.put_refusal-filled.ensures))
+    ]

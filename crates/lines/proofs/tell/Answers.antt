@@ -1,16 +1,11 @@
--- `tell` writes nothing for the number 0.
-use mathlib.Core.Path.{refl}
-use borrow.Author.Tests.{eq-eqb, ne_eqb}
-use Rattle.text_program.specs.Program.{carried_walk}
-use Rattle.printing.proofs.NothingWritten.{nothing_written}
+-- `tell` writes nothing where the reply accepts.
+use Rattle.lines.proofs.WalkLines.{accepted_line, refused_line}
 use Rattle.lines.proofs.tell.Goals as goal
 
-pub returns-then-a-eq0 : goal.returns-then-a-eq0
-unfolding carried_walk
-returns-then-a-eq0 c =
-    record { walk = refl; sheet = refl; text = rw (eq-eqb c.args.a.number 0 c.if-a-eq0.true) (nothing_written c.args.out.now c.args.at) }
+pub returns-in-Ok : goal.returns-in-Ok
+returns-in-Ok g c = let a = c.args in accepted_line g.R.Refusal.numbered a.line a.out.now a.at a.reply.answer a.reply.walk a.sheet c.in-Ok.is
 
-pub returns : goal.returns
-unfolding carried_walk
-returns c =
-    record { walk = refl; sheet = refl; text = rw (ne_eqb c.args.a.number 0 c.if-a-eq0.false) c.put_refusal-filled.ensures }
+pub returns-in-Err : goal.returns-in-Err
+returns-in-Err g c =
+    let a = c.args in
+    refused_line g.R.Refusal.numbered a.line a.out.now a.at a.reply.answer a.reply.walk a.sheet c.in-Err.refusal c.in-Err.is (c.requires c.in-Err.refusal) (rw (c.from.ensures, c.number.ensures, c.in-Err.refusal-is) at c.put_refusal.ensures)

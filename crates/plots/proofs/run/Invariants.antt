@@ -21,10 +21,10 @@ pub record Kept (unread₀ held₀ unread held : Option (List ℕ)) (buf₀ out�
   pub out_size : length out ≡ length out₀
   pub possible : Possible state sheet
 
-abbrev pub invariant-loop-f : goal.invariant-loop-f
-invariant-loop-f g l =
+abbrev pub invariant-loop-state : goal.invariant-loop-state
+invariant-loop-state g l =
     Kept (g.R.Read.remaining l.initial.input) (g.W.Write.contents l.initial.output) (g.R.Read.remaining l.input) (g.W.Write.contents l.output)
     l.initial.buf l.initial.out l.buf l.out l.state l.sheet l.at l.have l.last
 
-abbrev pub decreases-loop-f : goal.decreases-loop-f
-decreases-loop-f g l = to_do l.state (l.have - l.at) l.last
+abbrev pub decreases-loop-state : goal.decreases-loop-state
+decreases-loop-state g l = to_do l.state (l.have - l.at) l.last

@@ -2,4 +2,4 @@
 use Rattle.stream.proofs.start.Goals as goal
 
 pub returns : goal.returns
-returns c = rw c.new_walk-walk.ensures
+returns c = rw c.new_walk.ensures

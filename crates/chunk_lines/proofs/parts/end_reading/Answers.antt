@@ -6,4 +6,4 @@ use Rattle.chunk_lines.proofs.parts.end_reading.Goals as goal
 pub returns : goal.returns
 returns c =
     let a = c.args in
-    steps_to (ending_over a.state a.sheet a.left) c.put_refusal-p.ensures
+    steps_to (ending_over a.state a.sheet a.left) (rw c.from.ensures at c.put_refusal-filled.ensures)

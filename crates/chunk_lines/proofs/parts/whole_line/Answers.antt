@@ -9,5 +9,5 @@ use Rattle.chunk_lines.proofs.parts.whole_line.Goals as goal
 pub returns : goal.returns
 returns c =
     let a = c.args in
-    let left = c.carry_out-c.ensures in
-    rw (c.after_line-counted.ensures, left.walk, left.sheet) (steps_to (carried_step a.state (carry_out (a.state.lines + 1) (reading a.form).form a.state.walk a.sheet) a.size) left.text)
+    let left = rw c.from.ensures at c.carry_out-carried.ensures in
+    rw (c.after_line.ensures, left.walk, left.sheet) (steps_to (carried_step a.state (carry_out (a.state.lines + 1) (reading a.form).form a.state.walk a.sheet) a.size) left.text)

@@ -5,4 +5,4 @@ use Rattle.stream.proofs.step.close.Goals as goal
 
 pub returns : goal.returns
 returns c =
-    steps_to (closing c.args.state c.args.sheet) c.put_sheet-p.ensures
+    steps_to (closing c.args.state c.args.sheet) c.put_sheet-filled.ensures
