@@ -1,23 +1,15 @@
 // The comparison of two walks answered as a number and a buffer: 0; or the number of a refusal, with ten zeros; or 100 where the buffer is too short.
 #![tactic(auto)]
 
-ghost use Rattle.std.specs.Prelude.{◌≡◌, cond, ltb, pos, length};
+ghost use Rattle.std.specs.Prelude.{◌≡◌};
 ghost use Rattle.two_walks.specs.Comparison.{figures_call, part_of};
 ghost use Rattle.comparison_replies.specs.ComparisonReply.{comparison_reply};
 
 use comparison::walk_figures;
 use longer_list::longer_walk;
+use refusals::Answer;
 use replies::put_values;
-
-// Which list the part is of: it has more numbers than the first list only where it is the second.
-fn list_of(first: &[i32], part: &[i32]) -> i64
-    ensures { result ≡ cond (ltb (length first.now) (length part.now)) (pos 1) (pos 0) }
-{
-    if first.len() < part.len() {
-        return 1;
-    }
-    0
-}
+use two_walks::NO_FIGURES;
 
 // 0, 1 or 2, and ten values: the six differences, the two distances, which list is handed back, and how many numbers of it.
 pub fn compare_walks_reply<'a>(first: &'a [i32], second: &'a [i32], out: &mut [i64]) -> u32
@@ -25,7 +17,7 @@ pub fn compare_walks_reply<'a>(first: &'a [i32], second: &'a [i32], out: &mut [i
 {
     let answer = walk_figures(first, second);
     let part = longer_walk(first, second);
-    let f = answer.figures();
+    let f = answer.unwrap_or(NO_FIGURES);
     let d = f.differences;
     let values = [
         d.a2,
@@ -36,7 +28,8 @@ pub fn compare_walks_reply<'a>(first: &'a [i32], second: &'a [i32], out: &mut [i
         d.yy12,
         f.forward as i64,
         f.backward as i64,
-        list_of(first, part),
+        // which list the part is of: it has more numbers than the first list only where it is the second
+        i64::from(first.len() < part.len()),
         part.len() as i64,
     ];
     put_values(&values, answer.number(), out)

@@ -6,18 +6,19 @@ ghost use Rattle.outline.specs.FixCall.{fix_point_call};
 ghost use Rattle.fixes.specs.FixAnswers.{reading};
 ghost use Rattle.fix_replies.specs.FixReply.{fix_reply};
 
-use fixes::FixAnswer;
+use fixes::{FixRefusal, fix_point};
+use outline::Position;
 use receiver::Fix;
+use refusals::Answer;
 use replies::put_values;
 
 // The point's x and y that an answer tells.
-fn point_values(answer: FixAnswer) -> [i64; 2]
+fn point_values(answer: Result<Position, FixRefusal>) -> [i64; 2]
     ensures { result ≡ (reading answer).point.x ∷ (reading answer).point.y ∷ [] }
 {
     match answer {
-        FixAnswer::At(p) => [p.x as i64, p.y as i64],
-        FixAnswer::NotFinite => [0, 0],
-        FixAnswer::OutsideLimits => [0, 0],
+        Ok(p) => [i64::from(p.x), i64::from(p.y)],
+        Err(_) => [0, 0],
     }
 }
 
@@ -25,7 +26,6 @@ fn point_values(answer: FixAnswer) -> [i64; 2]
 pub fn fix_point_reply(east: f32, north: f32, out: &mut [i64]) -> u32
     ensures { record { number = result; buffer = out.new } ≡ fix_reply (fix_point_call (record { east = east; north = north })) out.old }
 {
-    let answer = fixes::fix_point(Fix { east, north });
-    let values = point_values(answer);
-    put_values(&values, answer.number(), out)
+    let answer = fix_point(Fix { east, north });
+    put_values(&point_values(answer), answer.number(), out)
 }

@@ -12,8 +12,8 @@ use Rattle.cells.specs.declared.Run.{Run}
 use Rattle.cells.specs.RegionCall.{too_many}
 use Rattle.mask_cells.specs.MaskCells.{longest_runs}
 use Rattle.mask_cells.specs.MaskCalls.{wrong_length, MaskRunsOutcome, nothing_written, too_many_for, mask_runs_call}
-use Rattle.masks.specs.declared.MaskRunsAnswer.{MaskRunsAnswer}
-use Rattle.masks.specs.declared.MaskRunsAnswer.TheVariants.{Written, WrongLength, TooManyRuns}
+use Rattle.std.specs.Prelude.{Result, Ok, Err}
+use Rattle.masks.specs.declared.MaskRunsRefusal.{MaskRunsRefusal}
 use Rattle.masks.specs.MaskAnswers.{runs_reading}
 use Rattle.replies.specs.Reply.{reply}
 use Rattle.mask_replies.specs.MaskReply.{count_reply, count_capped}
@@ -30,18 +30,16 @@ count_within ws before = by_tests (wrong_length (length ws)) (ltb 4096 (length (
     by_tests false false false n after m = ltb-false 4096 n m
 
 -- The number and the count of an answer do not depend on the list.
-same_number : (a : MaskRunsAnswer) (l : List Run) → (runs_reading a []).number ≡ (runs_reading a l).number
-same_number (Written n) l = refl
-same_number WrongLength l = refl
-same_number TooManyRuns l = refl
+same_number : (a : Result ℕ MaskRunsRefusal) (l : List Run) → (runs_reading a []).number ≡ (runs_reading a l).number
+same_number (Ok n) l = refl
+same_number (Err r) l = refl
 
-same_count : (a : MaskRunsAnswer) (l : List Run) → (runs_reading a []).count ≡ (runs_reading a l).count
-same_count (Written n) l = refl
-same_count WrongLength l = refl
-same_count TooManyRuns l = refl
+same_count : (a : Result ℕ MaskRunsRefusal) (l : List Run) → (runs_reading a []).count ≡ (runs_reading a l).count
+same_count (Ok n) l = refl
+same_count (Err r) l = refl
 
 -- The reply to an answer of the call is the reply to the call's outcome.
-pub count-told : (ws : List ℕ) (before : List Run) (a : MaskRunsAnswer) (after : List Run) (buffer : List ℤ) → runs_reading a after ≡ mask_runs_call ws before
+pub count-told : (ws : List ℕ) (before : List Run) (a : Result ℕ MaskRunsRefusal) (after : List Run) (buffer : List ℤ) → runs_reading a after ≡ mask_runs_call ws before
     → count_reply (count_capped (runs_reading a [])) buffer ≡ count_reply (mask_runs_call ws before) buffer
 count-told ws before a after buffer e =
     let number_is : (runs_reading a []).number ≡ (mask_runs_call ws before).number = same_number a after ∙ ap (λ (o : MaskRunsOutcome). o.number) e in

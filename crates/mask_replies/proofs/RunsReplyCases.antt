@@ -8,8 +8,8 @@ use lib.IntN.{ℤ}
 use lib.ListN.{length}
 use Rattle.cells.specs.declared.Run.{Run}
 use Rattle.mask_cells.specs.MaskCalls.{MaskRunsOutcome, mask_runs_call}
-use Rattle.masks.specs.declared.MaskRunsAnswer.{MaskRunsAnswer}
-use Rattle.masks.specs.declared.MaskRunsAnswer.TheVariants.{Written, WrongLength, TooManyRuns}
+use Rattle.std.specs.Prelude.{Result, Ok, Err}
+use Rattle.masks.specs.declared.MaskRunsRefusal.{MaskRunsRefusal}
 use Rattle.masks.specs.MaskAnswers.{runs_reading}
 use Rattle.replies.specs.Reply.{Reply, short_buffer, reply}
 use Rattle.mask_replies.specs.MaskReply.{count_reply, count_capped, mask_runs_reply}
@@ -20,13 +20,12 @@ pub no_room : (o : MaskRunsOutcome) (runs : List Run) (buffer : List ℤ) → lt
 unfolding mask_runs_reply reply
 no_room o runs buffer short = rw short
 
-same_list : (a : MaskRunsAnswer) (l : List Run) → l ≡ (runs_reading a l).list
-same_list (Written n) l = refl
-same_list WrongLength l = refl
-same_list TooManyRuns l = refl
+same_list : (a : Result ℕ MaskRunsRefusal) (l : List Run) → l ≡ (runs_reading a l).list
+same_list (Ok n) l = refl
+same_list (Err r) l = refl
 
 -- With room the reply is the one to the call's answer, and the list is the one that the call leaves.
-pub with_room : (ws : List ℕ) (before : List Run) (a : MaskRunsAnswer) (after : List Run) (number : ℕ) (buffer last : List ℤ) → ltb (length buffer) 1 ≡ false
+pub with_room : (ws : List ℕ) (before : List Run) (a : Result ℕ MaskRunsRefusal) (after : List Run) (number : ℕ) (buffer last : List ℤ) → ltb (length buffer) 1 ≡ false
     → runs_reading a after ≡ mask_runs_call ws before → ◌≡◌ {A = Reply} (record { number = number; buffer = last }) (count_reply (count_capped (runs_reading a [])) buffer)
     → record { number = number; runs = after; buffer = last } ≡ mask_runs_reply (mask_runs_call ws before) before buffer
 unfolding mask_runs_reply

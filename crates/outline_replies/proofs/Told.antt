@@ -1,11 +1,22 @@
--- The number and the totals of an answer are told as the outcome that the answer reads as.
+-- The number and the totals of an answer are the outcome that the answer reads as.
 use Prim.Native.Nat.{ℕ}
-use mathlib.Core.Path.{◌≡◌, ap, ◌∙◌}
-use mathlib.Core.List.{List}
-use lib.IntN.{ℤ}
+use mathlib.Core.Path.{◌≡◌, refl}
+use Rattle.std.specs.Prelude.{Result, Ok, Err}
+use Rattle.refusals.specs.Numbers.{number_of}
 use Rattle.outline.specs.declared.Totals.{Totals}
 use Rattle.outline.specs.ListCall.{Outcome}
-use Rattle.outline_replies.specs.OutlineReply.{totals_reply}
+use Rattle.outline_answers.specs.declared.OutlineRefusal.{OutlineRefusal}
+use Rattle.outline_answers.specs.ListAnswer.{totals_of, list_number, reading as list_reading}
+use Rattle.affine.specs.declared.MapRefusal.{MapRefusal}
+use Rattle.affine.specs.Answer.{map_number, reading as map_reading}
 
-pub told : {number : ℕ} {totals : Totals} {reading outcome : Outcome} (buffer : List ℤ) → number ≡ reading.number → totals ≡ reading.totals → reading ≡ outcome → totals_reply (record { number = number; totals = totals }) buffer ≡ totals_reply outcome buffer
-told buffer n t means = (λ i. totals_reply (record { number = n i; totals = t i }) buffer) ∙ ap (λ o. totals_reply o buffer) means
+abbrev told : {R : Type 0} → (R → ℕ) → Result Totals R → Outcome
+told number a = record { number = number_of number a; totals = totals_of a }
+
+pub list_told : (a : Result Totals OutlineRefusal) → told list_number a ≡ list_reading a
+list_told (Ok t) = refl
+list_told (Err r) = refl
+
+pub map_told : (a : Result Totals MapRefusal) → told map_number a ≡ map_reading a
+map_told (Ok t) = refl
+map_told (Err r) = refl

@@ -1,3 +1,4 @@
+pub mod AnswerParts
 pub mod IndexLaw
 pub mod Numbers
 mod WorkedReplies

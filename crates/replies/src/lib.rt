@@ -8,16 +8,13 @@ ghost use Rattle.replies.specs.Reply.{reply};
 pub const SHORT_BUFFER: u32 = 100;
 
 // Copies the values to the front of the buffer and answers the number, or answers that the buffer is too short.
+#[tactic(auto, unfolding(crate::specs::Reply::reply))]
 pub fn put_values(values: &[i64], number: u32, out: &mut [i64]) -> u32
     ensures { record { number = result; buffer = out.new } ≡ reply number values.now out.old }
 {
     if out.len() < values.len() {
         return SHORT_BUFFER;
     }
-    let mut i = 0;
-    while i < values.len() {
-        out[i] = values[i];
-        i += 1;
-    }
+    out[..values.len()].copy_from_slice(values);
     number
 }
