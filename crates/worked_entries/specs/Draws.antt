@@ -1,11 +1,11 @@
 -- Calls that are drawn, as second/worked_entries.py draws them.
-use Rattle.std.specs.Prelude.{ℕ, ◌+◌, ◌*◌, ◌%◌, min, cond, leb, eqb}
+use Rattle.std.specs.Prelude.{ℕ, ◌+◌, ◌*◌, ◌%◌, min, cond, leb, eqb, Float}
 use Rattle.receiver.specs.declared.Entry.TheVariants.{Fix, Outage}
 use Rattle.outline.specs.declared.Kind.TheVariants.{Island, Hole}
 use Rattle.worked_entries.specs.declared.calls.Call.TheVariants.{Entry, Begin, End}
-use Rattle.worked_entries.specs.declared.draws.DrawnFloat.{DrawnFloat}
-use Rattle.worked_entries.specs.declared.draws.DrawnCall.{DrawnCall}
-use Rattle.worked_entries.specs.declared.draws.Given.{Given}
+use Rattle.worked_entries.specs.declared.calls.Call.{Call}
+use Rattle.worked_entries.specs.declared.calls.Held.{Held}
+use Rattle.worked_entries.specs.declared.draws.Drawn.{Drawn}
 use Rattle.worked_entries.specs.BitFloats.{float_of}
 use Rattle.worked_entries.specs.Calls.{carried_out}
 
@@ -23,49 +23,49 @@ drawn_size kind draw =
     (0x44000000 + draw % 0x1000000)))
 
 -- Kind, size and sign of a float; an odd draw for the sign makes it negative.
-abbrev pub of_three_draws : ℕ → ℕ → ℕ → DrawnFloat
+abbrev pub of_three_draws : ℕ → ℕ → ℕ → Drawn Float
 of_three_draws kind draw sign = record { value = float_of (drawn_size kind draw + sign % 2 * 0x80000000); state = sign }
 
 -- The float of the next three draws.
-unfoldable pub drawn_float : ℕ → DrawnFloat
+unfoldable pub drawn_float : ℕ → Drawn Float
 drawn_float s = of_three_draws (next_draw s) (next_draw (next_draw s)) (next_draw (next_draw (next_draw s)))
 
 -- A fix of two floats, east first.
-abbrev pub fix_of_floats : DrawnFloat → DrawnFloat → DrawnCall
-fix_of_floats east north = record { call = Entry (Fix (record { east = east.value; north = north.value })); state = north.state }
+abbrev pub fix_of_floats : Drawn Float → Drawn Float → Drawn Call
+fix_of_floats east north = record { value = Entry (Fix (record { east = east.value; north = north.value })); state = north.state }
 
 -- The same of the next six draws.
-unfoldable pub drawn_fix : ℕ → DrawnCall
+unfoldable pub drawn_fix : ℕ → Drawn Call
 drawn_fix s = fix_of_floats (drawn_float s) (drawn_float (drawn_float s).state)
 
 -- An outage of one float, of the next three draws.
-unfoldable pub drawn_outage : ℕ → DrawnCall
-drawn_outage s = record { call = Entry (Outage (drawn_float s).value); state = (drawn_float s).state }
+unfoldable pub drawn_outage : ℕ → Drawn Call
+drawn_outage s = record { value = Entry (Outage (drawn_float s).value); state = (drawn_float s).state }
 
 -- A begin, of a hole if the draw is odd.
-abbrev pub begin_of_draw : ℕ → DrawnCall
-begin_of_draw draw = record { call = Begin (cond (eqb (draw % 2) 1) Hole Island); state = draw }
+abbrev pub begin_of_draw : ℕ → Drawn Call
+begin_of_draw draw = record { value = Begin (cond (eqb (draw % 2) 1) Hole Island); state = draw }
 
 -- The begin of the next draw.
-unfoldable pub drawn_begin : ℕ → DrawnCall
+unfoldable pub drawn_begin : ℕ → Drawn Call
 drawn_begin s = begin_of_draw (next_draw s)
 
 -- The call by a draw modulo 16: 0 to 8 a fix, 9 to 13 an outage, 14 a begin, 15 an end. What else it needs is drawn next.
-abbrev pub call_of_draw : ℕ → DrawnCall
+abbrev pub call_of_draw : ℕ → Drawn Call
 call_of_draw draw =
     cond (leb (draw % 16) 8) (drawn_fix draw)
     (cond (leb (draw % 16) 13) (drawn_outage draw)
     (cond (eqb (draw % 16) 14) (drawn_begin draw)
-    (record { call = End; state = draw })))
+    (record { value = End; state = draw })))
 
 -- The call of the next draws.
-unfoldable pub drawn_call : ℕ → DrawnCall
+unfoldable pub drawn_call : ℕ → Drawn Call
 drawn_call s = call_of_draw (next_draw s)
 
 -- What a drawn call leaves to the one after it.
-abbrev pub left_by : DrawnCall → Given → Given
-left_by d g = record { state = d.state; walk = (carried_out d.call g.walk g.sheet).walk; sheet = (carried_out d.call g.walk g.sheet).sheet }
+abbrev pub left_by : Drawn Call → Drawn Held → Drawn Held
+left_by d g = record { value = record { walk = (carried_out d.value g.value).walk; sheet = (carried_out d.value g.value).sheet }; state = d.state }
 
 -- The same of the call that is drawn next.
-unfoldable pub after_call : Given → Given
+unfoldable pub after_call : Drawn Held → Drawn Held
 after_call g = left_by (drawn_call g.state) g

@@ -1,13 +1,13 @@
 // The calls of a walk that the rows tell, each carried out.
 ghost use Rattle.std.specs.Prelude.{◌≡◌};
-ghost use Rattle.outline.specs.WalkCalls.{begin_call, end_call};
-ghost use Rattle.outline.specs.EntryCalls.{entry_call};
-ghost use Rattle.worked_entries.specs.Calls.{told_reading, beside_sheet, carried_out};
+ghost use Rattle.refusals.specs.Numbers.{number_of};
+ghost use Rattle.worked_entries.specs.Calls.{call_number, told_reading, beside_sheet, carried_out};
 
-use outline::{Kind, Sheet, Totals, Walk};
-use outline_answers::no_totals;
-use outline_replies::{outage_of_end, totals_of_end};
+use outline::{Kind, Sheet, Walk, ZEROS};
+use outline_answers::{BeginRefusal, EndRefusal, Ended, EntryRefusal};
 use receiver::Entry;
+use refusals::Refusal;
+use std::fmt;
 
 #[derive(Clone, Copy)]
 pub(crate) enum Call {
@@ -16,69 +16,89 @@ pub(crate) enum Call {
     End,
 }
 
-// What a call answers and leaves. Totals and outage are an end's answer, and zeros with every other call.
+impl fmt::Display for Call {
+    fn fmt<W: fmt::Write>(&self, f: &mut fmt::Formatter<W>) -> fmt::Result {
+        match self {
+            Call::Entry(Entry::Fix(_)) => f.write_str("fix"),
+            Call::Entry(Entry::Outage(_)) => f.write_str("outage"),
+            Call::Begin(_) => f.write_str("begin"),
+            Call::End => f.write_str("end"),
+        }
+    }
+}
+
 #[derive(Clone, Copy)]
-pub(crate) struct Told {
-    pub number: u32,
-    pub totals: Totals,
-    pub outage: f32,
+pub(crate) enum CallRefusal {
+    Entry(EntryRefusal),
+    Begin(BeginRefusal),
+    End(EndRefusal),
+}
+
+impl Refusal for CallRefusal {
+    ghost numbered = { call_number };
+
+    fn number(self) -> u32 {
+        match self {
+            CallRefusal::Entry(refusal) => refusal.number(),
+            CallRefusal::Begin(refusal) => refusal.number(),
+            CallRefusal::End(refusal) => refusal.number(),
+        }
+    }
+}
+
+// What an end that is refused tells, and every other call.
+pub(crate) const NOT_ENDED: Ended = Ended {
+    totals: ZEROS,
+    outage: 0.0,
+};
+
+// The walk and the sheet that a call is given, and those that it leaves.
+#[derive(Clone, Copy)]
+pub(crate) struct Held {
     pub walk: Walk,
     pub sheet: Sheet,
 }
 
+// What a call answers and leaves.
+#[derive(Clone, Copy)]
+pub(crate) struct Told {
+    pub answer: Result<Ended, CallRefusal>,
+    pub left: Held,
+}
+
 // A call that answers no totals and leaves the sheet as it is.
-fn beside_sheet(number: u32, walk: Walk, sheet: Sheet) -> Told
-    ensures { told_reading result ≡ beside_sheet (record { number = number; walk = walk }) sheet }
+fn beside_sheet(answer: Result<(), CallRefusal>, walk: Walk, sheet: Sheet) -> Told
+    ensures { told_reading result ≡ beside_sheet (record { number = number_of call_number answer; walk = walk }) sheet }
 {
-    let totals = no_totals();
     Told {
-        number,
-        totals,
-        outage: 0.0,
-        walk,
-        sheet,
+        answer: answer.map(|_| NOT_ENDED),
+        left: Held { walk, sheet },
     }
 }
 
-fn told_entry(e: Entry, w: Walk, sheet: Sheet) -> Told
-    ensures { told_reading result ≡ beside_sheet (entry_call w e) sheet }
-{
-    let reply = entries::entry(w, e);
-    let answer = reply.answer;
-    beside_sheet(answer.number(), reply.walk, sheet)
-}
-
-fn told_begin(kind: Kind, w: Walk, sheet: Sheet) -> Told
-    ensures { told_reading result ≡ beside_sheet (begin_call w kind) sheet }
-{
-    let reply = walk_state::begin(w, kind);
-    let answer = reply.answer;
-    beside_sheet(answer.number(), reply.walk, sheet)
-}
-
-fn told_end(w: Walk, s: Sheet) -> Told
-    ensures { told_reading result ≡ end_call w s }
-{
-    let reply = outline_calls::end(w, s);
-    let answer = reply.answer;
-    let totals = totals_of_end(answer);
-    let walk = reply.walk;
-    let sheet = reply.sheet;
-    Told {
-        number: answer.number(),
-        totals,
-        outage: outage_of_end(answer),
-        walk,
-        sheet,
-    }
-}
-
-pub(crate) fn carry_out(call: Call, w: Walk, s: Sheet) -> Told
-    ensures { told_reading result ≡ carried_out call w s }
+pub(crate) fn carry_out(call: Call, held: Held) -> Told
+    ensures { told_reading result ≡ carried_out call held }
 {
     match call {
-        Call::Entry(e) => told_entry(e, w, s),
-        Call::Begin(kind) => told_begin(kind, w, s),
-        Call::End => told_end(w, s),
+        Call::Entry(e) => {
+            let reply = entries::entry(held.walk, e);
+            let answer = reply.answer.map_err(CallRefusal::Entry);
+            beside_sheet(answer, reply.walk, held.sheet)
+        }
+        Call::Begin(kind) => {
+            let reply = walk_state::begin(held.walk, kind);
+            let answer = reply.answer.map_err(CallRefusal::Begin);
+            beside_sheet(answer, reply.walk, held.sheet)
+        }
+        Call::End => {
+            let reply = outline_calls::end(held.walk, held.sheet);
+            Told {
+                answer: reply.answer.map_err(CallRefusal::End),
+                left: Held {
+                    walk: reply.walk,
+                    sheet: reply.sheet,
+                },
+            }
+        }
     }
 }

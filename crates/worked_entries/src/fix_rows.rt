@@ -1,12 +1,9 @@
 // Fixes as points, each a row.
-ghost use Rattle.std.specs.Prelude.{◌≡◌};
-ghost use Rattle.fixes.specs.FixAnswers.{reading};
-
 use crate::floats::{INFINITY, TOO_FAR, fix_of, float_of, no_number};
-use crate::show::{end_row, show_label, show_natural, show_position};
-use fixes::{FixAnswer, fix_point};
-use outline::{ORIGIN, Position};
+use fixes::fix_point;
+use outline::ORIGIN;
 use receiver::Fix;
+use refusals::Answer;
 
 // The bits of 1 and of -1.
 const NORTH: u32 = 0x3F80_0000;
@@ -24,37 +21,23 @@ const FLOATS: [u32; 28] = [
     0x7F7FFFFF, 0xFF7FFFFF, 0x7F800000, 0xFF800000,
 ];
 
-// The point that an answer tells.
-fn point_told(answer: FixAnswer) -> Position
-    ensures { result ≡ (reading answer).point }
-{
-    match answer {
-        FixAnswer::At(p) => p,
-        FixAnswer::NotFinite => ORIGIN,
-        FixAnswer::OutsideLimits => ORIGIN,
-    }
-}
-
 // Number, x and y; then the row ends.
-fn show_answer(rt: &impl Print, answer: FixAnswer) {
-    show_natural(rt, answer.number() as u64);
-    show_position(rt, point_told(answer));
-    end_row(rt);
+fn show_answer(rt: &impl Print, fix: Fix) {
+    let answer = fix_point(fix);
+    let point = answer.unwrap_or(ORIGIN);
+    let _ = println!(rt; "\t{}\t{}\t{}", answer.number(), point.x, point.y);
 }
 
 // Asked: the bits of east and of north. Answered: number, x, y.
 fn fix_row(rt: &impl Print, east: u32, north: u32) {
-    show_label(rt, b"fix");
-    show_natural(rt, east as u64);
-    show_natural(rt, north as u64);
-    show_answer(rt, fix_point(fix_of(east, north)));
+    let _ = print!(rt; "fix\t{east}\t{north}");
+    show_answer(rt, fix_of(east, north));
 }
 
 // A fix of which one float is not a number. Asked: the bits of the other. Answered: the same.
 fn no_number_row(rt: &impl Print, other: u32, fix: Fix) {
-    show_label(rt, b"fix-nan");
-    show_natural(rt, other as u64);
-    show_answer(rt, fix_point(fix));
+    let _ = print!(rt; "fix-nan\t{other}");
+    show_answer(rt, fix);
 }
 
 fn no_east_row(rt: &impl Print, north: u32) {
@@ -73,22 +56,12 @@ fn no_north_row(rt: &impl Print, east: u32) {
     no_number_row(rt, east, fix);
 }
 
-// One float as east, then as north.
-fn both_rows(rt: &impl Print, bits: u32) {
-    fix_row(rt, bits, NORTH);
-    fix_row(rt, EAST, bits);
-}
-
-fn turning_rows(rt: &impl Print) {
-    let mut i = 0;
-    while i < 28 {
-        both_rows(rt, FLOATS[i]);
-        i += 1;
-    }
-}
-
 pub(crate) fn fix_rows(rt: &impl Print) {
-    turning_rows(rt);
+    // One float as east, then as north.
+    for bits in &FLOATS {
+        fix_row(rt, *bits, NORTH);
+        fix_row(rt, EAST, *bits);
+    }
     fix_row(rt, INFINITY, TOO_FAR);
     fix_row(rt, FAR_EAST, INFINITY);
     no_east_row(rt, NORTH);

@@ -21,18 +21,21 @@ pub(crate) fn float_of(bits: u32) -> f32
     ensures { result ≡ float_of bits }
 {
     if INFINITY < bits % SIGN {
-        return 0.0;
+        0.0
+    } else {
+        f32::from_bits(bits)
     }
-    f32::from_bits(bits)
 }
 
+#[tactic(auto, unfolding(crate::specs::BitFloats::bits_of))]
 pub(crate) fn bits_of(f: f32) -> u32
     ensures { result ≡ bits_of f }
 {
-    if f != f {
-        return NO_NUMBER;
+    if f.is_nan() {
+        NO_NUMBER
+    } else {
+        f32::to_bits(f)
     }
-    f32::to_bits(f)
 }
 
 // The fix with the bits of its east and of its north.

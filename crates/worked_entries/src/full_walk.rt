@@ -5,6 +5,7 @@ ghost use Rattle.worked_entries.specs.FullWalk.{after_fix, after_round, full_wal
 use crate::floats::fix_of;
 use outline::{Kind, Walk};
 use receiver::Entry;
+use walk_state::{begin, new_walk};
 
 // The bits of 2,000 and of -2,000.
 const HIGH: u32 = 0x44FA_0000;
@@ -14,9 +15,7 @@ const LOW: u32 = 0xC4FA_0000;
 fn walk_to(w: Walk, east: u32, north: u32) -> Walk
     ensures { result ≡ after_fix w east north }
 {
-    let fix = fix_of(east, north);
-    let reply = entries::entry(w, Entry::Fix(fix));
-    reply.walk
+    entries::entry(w, Entry::Fix(fix_of(east, north))).walk
 }
 
 // One round of the square with corners ±2,000, anticlockwise.
@@ -33,12 +32,9 @@ fn walk_round(w: Walk) -> Walk
 pub(crate) fn full_walk() -> Walk
     ensures { result ≡ full_walk }
 {
-    let begun = walk_state::begin(walk_state::new_walk(), Kind::Island);
-    let mut walk = begun.walk;
-    let mut rounds: u32 = 0;
-    while rounds < 256 {
+    let mut walk = begin(new_walk(), Kind::Island).walk;
+    for rounds in 0..256u32 {
         walk = walk_round(walk);
-        rounds += 1;
     }
     walk
 }

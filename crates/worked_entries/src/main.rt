@@ -7,7 +7,6 @@ mod draws;
 mod fix_rows;
 mod floats;
 mod full_walk;
-mod show;
 mod walk_rows;
 
 fn main(rt: HostRuntime) {

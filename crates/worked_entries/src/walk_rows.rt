@@ -4,116 +4,91 @@ ghost use Rattle.worked_entries.specs.BitFloats.{fix_of};
 ghost use Rattle.worked_entries.specs.Calls.{told_reading, carried_out};
 ghost use Rattle.worked_entries.specs.Draws.{after_call};
 
-use crate::calls::{Call, Told, carry_out};
-use crate::draws::{FIRST_STATE, Given, drawn_call};
-use crate::floats::{INFINITY, TOO_FAR, fix_of};
+use crate::calls::{Call, Held, NOT_ENDED, Told, carry_out};
+use crate::draws::{Drawn, FIRST_STATE, drawn_call};
+use crate::floats::{INFINITY, TOO_FAR, bits_of, fix_of};
 use crate::full_walk::full_walk;
-use crate::show::{end_row, show_float, show_label, show_natural, show_totals, show_word};
-use outline::{Sheet, Walk};
 use receiver::Entry;
+use refusals::Answer;
 use walk_state::{new_sheet, new_walk};
-
-fn show_entry(rt: &impl Print, e: Entry) {
-    match e {
-        Entry::Fix(_) => {
-            show_word(rt, b"fix");
-        }
-        Entry::Outage(_) => {
-            show_word(rt, b"outage");
-        }
-    }
-}
-
-fn show_call(rt: &impl Print, call: Call) {
-    match call {
-        Call::Entry(e) => {
-            show_entry(rt, e);
-        }
-        Call::Begin(_) => {
-            show_word(rt, b"begin");
-        }
-        Call::End => {
-            show_word(rt, b"end");
-        }
-    }
-}
 
 // The call; its number, the walk's count and longest outage afterwards; with an end also the six totals and the longest outage that it answers.
 fn show_told(rt: &impl Print, call: Call, told: Told) {
-    show_call(rt, call);
-    show_natural(rt, told.number as u64);
-    let walk = told.walk;
-    show_natural(rt, walk.count as u64);
-    show_float(rt, walk.outage);
+    let walk = told.left.walk;
+    let _ = print!(rt;
+        "\t{call}\t{}\t{}\t{}",
+        told.answer.number(),
+        walk.count,
+        bits_of(walk.outage)
+    );
     if let Call::End = call {
-        let totals = told.totals;
-        show_totals(rt, totals);
-        show_float(rt, told.outage);
+        let ended = told.answer.unwrap_or(NOT_ENDED);
+        let t = ended.totals;
+        let _ = print!(rt;
+            "\t{}\t{}\t{}\t{}\t{}\t{}",
+            t.a2, t.x6, t.y6, t.xx12, t.xy24, t.yy12
+        );
+        let _ = print!(rt; "\t{}", bits_of(ended.outage));
     }
-    end_row(rt);
+    let _ = println!(rt;);
 }
 
 // The call that is drawn next, with its step, from 1 on.
-fn call_row(rt: &impl Print, step: u64, given: Given) -> Given
+#[tactic(auto, unfolding(crate::specs::Draws::after_call))]
+fn call_row(rt: &impl Print, step: u32, given: Drawn<Held>) -> Drawn<Held>
     ensures { result ≡ after_call given }
 {
     let drawn = drawn_call(given.state);
-    let call = drawn.call;
-    let told = carry_out(call, given.walk, given.sheet);
-    show_label(rt, b"call");
-    show_natural(rt, step);
-    show_told(rt, call, told);
-    let walk = told.walk;
-    let sheet = told.sheet;
-    Given {
+    let told = carry_out(drawn.value, given.value);
+    let _ = print!(rt; "call\t{step}");
+    show_told(rt, drawn.value, told);
+    Drawn {
+        value: told.left,
         state: drawn.state,
-        walk,
-        sheet,
     }
 }
 
 // 400 calls, first on a closed walk and a new sheet.
 pub(crate) fn call_rows(rt: &impl Print) {
-    let mut given = Given {
-        state: FIRST_STATE,
+    let held = Held {
         walk: new_walk(),
         sheet: new_sheet(),
     };
-    let mut step = 1;
-    while step <= 400 {
+    let mut given = Drawn {
+        value: held,
+        state: FIRST_STATE,
+    };
+    for step in 1..401 {
         given = call_row(rt, step, given);
-        step += 1;
     }
 }
 
 // One call on a full walk.
-fn full_row(rt: &impl Print, call: Call, w: Walk, s: Sheet) -> Told
-    ensures { told_reading result ≡ carried_out call w s }
+fn full_row(rt: &impl Print, call: Call, held: Held) -> Told
+    ensures { told_reading result ≡ carried_out call held }
 {
-    let told = carry_out(call, w, s);
-    show_label(rt, b"full");
+    let told = carry_out(call, held);
+    let _ = print!(rt; "full");
     show_told(rt, call, told);
     told
 }
 
 // The same of a fix, with the bits of its east and of its north.
-fn full_fix_row(rt: &impl Print, east: u32, north: u32, w: Walk, s: Sheet) -> Told
-    ensures { told_reading result ≡ carried_out (Call.Entry (Entry.Fix (fix_of east north))) w s }
+fn full_fix_row(rt: &impl Print, east: u32, north: u32, held: Held) -> Told
+    ensures { told_reading result ≡ carried_out (Call.Entry (Entry.Fix (fix_of east north))) held }
 {
-    let fix = fix_of(east, north);
-    full_row(rt, Call::Entry(Entry::Fix(fix)), w, s)
+    full_row(rt, Call::Entry(Entry::Fix(fix_of(east, north))), held)
 }
 
 // A fix at the peg, one past the limits, one at no place; then an outage and the end.
 pub(crate) fn full_rows(rt: &impl Print) {
-    let peg = full_fix_row(rt, 0, 0, full_walk(), new_sheet());
-    let far = full_fix_row(rt, TOO_FAR, 0, peg.walk, peg.sheet);
-    let nowhere = full_fix_row(rt, 0, INFINITY, far.walk, far.sheet);
-    let longer = full_row(
-        rt,
-        Call::Entry(Entry::Outage(5.0)),
-        nowhere.walk,
-        nowhere.sheet,
-    );
-    full_row(rt, Call::End, longer.walk, longer.sheet);
+    let held = Held {
+        walk: full_walk(),
+        sheet: new_sheet(),
+    };
+    let peg = full_fix_row(rt, 0, 0, held);
+    let far = full_fix_row(rt, TOO_FAR, 0, peg.left);
+    let nowhere = full_fix_row(rt, 0, INFINITY, far.left);
+    let longer = full_row(rt, Call::Entry(Entry::Outage(5.0)), nowhere.left);
+    full_row(rt, Call::End, longer.left);
 }

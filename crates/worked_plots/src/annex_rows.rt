@@ -2,7 +2,7 @@
 ghost use Rattle.std.specs.Prelude.{◌≡◌, pos, get_or};
 ghost use Rattle.column_sums.specs.Annex.{square_sums};
 
-use crate::show::{end_row, show_integer, show_label, show_natural};
+use crate::show::{end_row, show, show_label};
 use square_table::{entry_at, square_sums};
 
 // Entry k, 0 past the end.
@@ -15,20 +15,14 @@ fn annex_entry(k: usize) -> i64
 
 // Asked: k. Answered: the entry.
 fn square_sum_row(rt: &impl Print, k: usize) {
-    show_label(rt, b"square-sum");
-    show_natural(rt, k as u64);
-    show_integer(rt, annex_entry(k));
+    show_label(rt, "square-sum");
+    show(rt, k);
+    show(rt, annex_entry(k));
     end_row(rt);
 }
 
 pub(crate) fn annex_rows(rt: &impl Print) {
-    square_sum_row(rt, 0);
-    square_sum_row(rt, 1);
-    square_sum_row(rt, 2);
-    square_sum_row(rt, 3);
-    square_sum_row(rt, 4);
-    square_sum_row(rt, 5);
-    square_sum_row(rt, 1023);
-    square_sum_row(rt, 1024);
-    square_sum_row(rt, 1025);
+    for k in [0, 1, 2, 3, 4, 5, 1023, 1024, 1025] {
+        square_sum_row(rt, k);
+    }
 }

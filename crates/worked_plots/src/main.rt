@@ -15,32 +15,30 @@ mod run_rows;
 mod show;
 mod third_rows;
 
-use outline::Position;
-use outline_replies::{totals_of_end, totals_of_list, totals_of_map};
-use show::{end_row, show_coordinate, show_integer, show_label, show_natural, show_totals};
+use outline::{ORIGIN, Position};
+use outline_answers::totals_of;
+use outline_replies::ended_of;
+use refusals::Answer;
+use show::{end_row, show, show_label, show_position, show_totals};
 
 // A triangle with a corner at the limit or past it. Asked: its x. Answered: number, six totals.
 fn limit_row(rt: &impl Print, x: i32) {
     let answer = plots::triangle_totals(x);
-    show_label(rt, b"limit");
-    show_coordinate(rt, x);
-    show_natural(rt, answer.number() as u64);
-    show_totals(rt, totals_of_list(answer));
+    show_label(rt, "limit");
+    show(rt, x);
+    show(rt, answer.number());
+    show_totals(rt, totals_of(answer));
     end_row(rt);
 }
 
 // A point for a walk that has 1,024, within the limits or outside them. Asked: its coordinates. Answered: number, count and six totals of the walk.
 fn point_row(rt: &impl Print, p: Position) {
     let reply = plots::point_1025(p);
-    let answer = reply.answer;
-    let walk = reply.walk;
-    let totals = walk.totals;
-    show_label(rt, b"point-1025");
-    show_coordinate(rt, p.x);
-    show_coordinate(rt, p.y);
-    show_natural(rt, answer.number() as u64);
-    show_natural(rt, walk.count as u64);
-    show_totals(rt, totals);
+    show_label(rt, "point-1025");
+    show_position(rt, p);
+    show(rt, reply.answer.number());
+    show(rt, reply.walk.count);
+    show_totals(rt, reply.walk.totals);
     end_row(rt);
 }
 
@@ -49,55 +47,50 @@ fn double_row(rt: &impl Print, rounds: usize)
     requires { rounds ≤ 256 }
 {
     let answer = plots::doubled_square(rounds);
-    show_label(rt, b"double");
-    show_natural(rt, rounds as u64);
-    show_natural(rt, answer.number() as u64);
-    show_totals(rt, totals_of_map(answer));
+    show_label(rt, "double");
+    show(rt, rounds);
+    show(rt, answer.number());
+    show_totals(rt, totals_of(answer));
     end_row(rt);
 }
 
 // An outline of 256 rounds on a sheet. Asked: how many such came earlier. Answered: number and totals of its end, then the sheet.
 fn sheet_row(rt: &impl Print, earlier: u32) {
     let reply = plots::sheet_of_squares(earlier);
-    let answer = reply.answer;
-    let sheet = reply.sheet;
-    let totals = sheet.totals;
-    show_label(rt, b"sheet");
-    show_natural(rt, earlier as u64);
-    show_natural(rt, answer.number() as u64);
-    show_totals(rt, totals_of_end(answer));
-    show_natural(rt, sheet.count as u64);
-    show_totals(rt, totals);
+    show_label(rt, "sheet");
+    show(rt, earlier);
+    show(rt, reply.answer.number());
+    show_totals(rt, ended_of(reply.answer).totals);
+    show(rt, reply.sheet.count);
+    show_totals(rt, reply.sheet.totals);
     end_row(rt);
 }
 
 // One run. Asked: first column, length. Answered: number, index, six totals.
 fn run_row(rt: &impl Print, first: u32, length: u32) {
     let answer = plots::run_totals(first, length);
-    show_label(rt, b"run");
-    show_natural(rt, first as u64);
-    show_natural(rt, length as u64);
+    show_label(rt, "run");
+    show(rt, first);
+    show(rt, length);
     run_rows::show_region(rt, answer);
 }
 
 // An open walk handed in. Asked: points, A2. Answered: number, six totals of its end, the sheet's count.
 fn walk_row(rt: &impl Print, count: u32, a2: i64) {
     let reply = plots::handed_in(count, a2);
-    let answer = reply.answer;
-    let sheet = reply.sheet;
-    show_label(rt, b"walk");
-    show_natural(rt, count as u64);
-    show_integer(rt, a2);
-    show_natural(rt, answer.number() as u64);
-    show_totals(rt, totals_of_end(answer));
-    show_natural(rt, sheet.count as u64);
+    show_label(rt, "walk");
+    show(rt, count);
+    show(rt, a2);
+    show(rt, reply.answer.number());
+    show_totals(rt, ended_of(reply.answer).totals);
+    show(rt, reply.sheet.count);
     end_row(rt);
 }
 
 fn main(rt: HostRuntime) {
     limit_row(&rt, 2000);
     limit_row(&rt, 2001);
-    point_row(&rt, Position { x: 0, y: 0 });
+    point_row(&rt, ORIGIN);
     point_row(&rt, Position { x: 2001, y: 0 });
     double_row(&rt, 244);
     double_row(&rt, 245);

@@ -9,16 +9,15 @@ ghost use Rattle.affine.specs.Answer.{reading as map_reading};
 ghost use Rattle.cells.specs.RegionCall.{region_call, reading};
 ghost use Rattle.worked_plots.specs.Plots.{round_square, doubling, after_points, square, walked_square, end_after, triangle, run_of, handed_in};
 
-use affine::MapAnswer;
-use cells::{RegionAnswer, Run};
-use outline::{AffineMap, Kind, ORIGIN, Position, Totals, Walk};
-use outline_answers::{EndReply, OutlineAnswer, PointReply};
-use outline_replies::totals_of_list;
+use affine::MapRefusal;
+use cells::{RegionRefusal, Run};
+use outline::{AffineMap, Kind, ORIGIN, Position, Totals, Walk, ZEROS};
+use outline_answers::{EndReply, OutlineRefusal, PointRefusal, WalkReply, totals_of};
 
 // The corners of a square, x and y in turn, anticlockwise.
 const SQUARE: [i32; 8] = [2000, -2000, 2000, 2000, -2000, 2000, -2000, -2000];
 
-const DOUBLING: AffineMap = AffineMap {
+pub(crate) const DOUBLING: AffineMap = AffineMap {
     a: 2,
     b: 0,
     g: 0,
@@ -28,7 +27,7 @@ const DOUBLING: AffineMap = AffineMap {
 };
 
 // A triangle with a corner at (x, 0).
-pub(crate) fn triangle_totals(x: i32) -> OutlineAnswer
+pub(crate) fn triangle_totals(x: i32) -> Result<Totals, OutlineRefusal>
     ensures { list_reading result ≡ list_call (triangle x) }
 {
     let numbers = [x, 0, 0, 2000, -2000, 0];
@@ -40,26 +39,24 @@ fn square_numbers() -> [i32; 2048]
     ensures { result ≡ round_square 2048 }
 {
     let mut numbers = [0; 2048];
-    let mut i = 0;
-    while i < 2048 {
+    for i in 0..2048 {
         numbers[i] = SQUARE[i % 8];
-        i += 1;
     }
     numbers
 }
 
 // As many rounds of the square, doubled by a map.
-pub(crate) fn doubled_square(rounds: usize) -> MapAnswer
+pub(crate) fn doubled_square(rounds: usize) -> Result<Totals, MapRefusal>
     requires { rounds ≤ 256 }
     ensures { map_reading result ≡ map_call doubling (list_call (take (rounds * 8) (round_square 2048))).totals }
 {
     let numbers = square_numbers();
-    let n = rounds * 8;
-    let totals = totals_of_list(outline_calls::outline_totals(&numbers[..n]));
+    let totals = totals_of(outline_calls::outline_totals(&numbers[..rounds * 8]));
     affine::map_totals(DOUBLING, totals)
 }
 
 // One round of the square.
+#[tactic(auto, unfolding(crate::specs::Plots::after_points, outline::specs::ListCall::points))]
 fn walk_round(w: Walk) -> Walk
     ensures { result ≡ after_points w (points square) }
 {
@@ -74,22 +71,25 @@ fn walk_round(w: Walk) -> Walk
 fn walk_square(w: Walk) -> Walk
     ensures { result ≡ walked_square w }
 {
-    let begun = walk_state::begin(w, Kind::Island);
-    let mut walk = begun.walk;
-    let mut rounds: u32 = 0;
-    while rounds < 256 {
+    let mut walk = walk_state::begin(w, Kind::Island).walk;
+    for _round in 0..256_u32 {
         walk = walk_round(walk);
-        rounds += 1;
     }
     walk
 }
 
+// The point call at a position.
+pub(crate) fn point_at(w: Walk, p: Position) -> WalkReply<PointRefusal>
+    ensures { point_reading result ≡ point_call w p }
+{
+    outline_calls::point(w, p.x, p.y)
+}
+
 // Point 1,025.
-pub(crate) fn point_1025(p: Position) -> PointReply
+pub(crate) fn point_1025(p: Position) -> WalkReply<PointRefusal>
     ensures { point_reading result ≡ point_call (walked_square closed) p }
 {
-    let w = walk_square(walk_state::new_walk());
-    outline_calls::point(w, p.x, p.y)
+    point_at(walk_square(walk_state::new_walk()), p)
 }
 
 // An outline of 256 rounds on a sheet that has `earlier` such outlines.
@@ -100,17 +100,14 @@ pub(crate) fn sheet_of_squares(earlier: u32) -> EndReply
         walk_square(walk_state::new_walk()),
         walk_state::new_sheet(),
     );
-    let mut done = 0;
-    while done < earlier {
-        let w = walk_square(reply.walk);
-        reply = outline_calls::end(w, reply.sheet);
-        done += 1;
+    for _done in 0..earlier {
+        reply = outline_calls::end(walk_square(reply.walk), reply.sheet);
     }
     reply
 }
 
 // One run, of row 0.
-pub(crate) fn run_totals(first: u32, length: u32) -> RegionAnswer
+pub(crate) fn run_totals(first: u32, length: u32) -> Result<Totals, RegionRefusal>
     ensures { reading result ≡ region_call (run_of first length ∷ []) }
 {
     let run = Run {
@@ -126,14 +123,7 @@ pub(crate) fn run_totals(first: u32, length: u32) -> RegionAnswer
 pub(crate) fn handed_in(count: u32, a2: i64) -> EndReply
     ensures { end_reading result ≡ end_call (handed_in count a2) new_sheet }
 {
-    let totals = Totals {
-        a2,
-        x6: 0,
-        y6: 0,
-        xx12: 0,
-        xy24: 0,
-        yy12: 0,
-    };
+    let totals = Totals { a2, ..ZEROS };
     let walk = walk_state::open_walk(Kind::Island, count, ORIGIN, ORIGIN, totals, 0.0);
     outline_calls::end(walk, walk_state::new_sheet())
 }

@@ -18,6 +18,6 @@ float_from_bits-result c =
     let bits = c.args.bits in
     subst (λ (b : Bool). T (not b)) (sym (nan_bits_above binary32 bits ∙ le-ltb 0x7F800000 (bits % 0x80000000) c.if-bits-gt-INFINITY.false)) tt
 
-pub returns : goal.returns
+pub returns-else-bits-gt-INFINITY : goal.returns-else-bits-gt-INFINITY
 unfolding float_of
-returns c = rw (le-ltb 0x7F800000 (c.args.bits % 0x80000000) c.if-bits-gt-INFINITY.false)
+returns-else-bits-gt-INFINITY c = rw (le-ltb 0x7F800000 (c.args.bits % 0x80000000) c.if-bits-gt-INFINITY.false)

@@ -9,18 +9,14 @@ pub loop-done-init : goal.loop-done-init
 unfolding end_after
 loop-done-init c =
     let walk = c.walk_square.ensures ∙ ap walked_square c.new_walk.ensures in
-    (omega arith, c.end-reply.ensures ∙ (λ i. end_call (walk i) (c.new_sheet.ensures i)))
-
-pub overflow_add-done : goal.overflow_add-done
-overflow_add-done c =
-    omega (arith, c.ranges.earlier, c.loop-done-test)
+    c.end-reply.ensures ∙ (λ i. end_call (walk i) (c.new_sheet.ensures i))
 
 pub loop-done-preserved : goal.loop-done-preserved
 unfolding end_after
 loop-done-preserved c =
-    let last = c.loop-done.invariant.1 in
-    let walk = c.walk_square-w.ensures ∙ ap (λ r. walked_square r.walk) last in
-    (omega arith, rw add-one (c.end-reply-in-loop-done.ensures ∙ (λ i. end_call (walk i) (last i).sheet)))
+    let last = c.loop-done.invariant in
+    let walk = c.walk_square-in-loop-done.ensures ∙ ap (λ r. walked_square r.walk) last in
+    rw add-one (c.end-reply-in-loop-done.ensures ∙ (λ i. end_call (walk i) (last i).sheet))
 
 pub returns : goal.returns
-returns c = c.loop-done.invariant.1 ∙ ap end_after (omega arith)
+returns c = c.loop-done.invariant ∙ ap end_after (omega arith)

@@ -13,7 +13,7 @@ use Rattle.worked_plots.proofs.plots.square_numbers.Goals as goal
 
 pub loop-i-init : goal.loop-i-init
 unfolding round_square
-loop-i-init c = record { most = omega arith; long = refl; front = refl }
+loop-i-init c = record { long = refl; front = refl }
 
 pub loop-i-preserved : goal.loop-i-preserved
 unfolding round_square
@@ -22,7 +22,7 @@ loop-i-preserved c =
     let number = get_or square (at.i % 8) (pos 0) in
     let back : to_z w32 (of_z w32 number) ≡ number = search rules in
     let here : at.i < length at.numbers = omega arith in
-    record { most = omega arith; long = simp length-set at.invariant.long; front = rw (add-one, take-suc-set, back, at.invariant.front) }
+    record { long = simp length-set at.invariant.long; front = rw (add-one, take-suc-set, back, at.invariant.front) }
 
 pub returns : goal.returns
 returns c =
