@@ -13,11 +13,11 @@ LANGUAGES = ("c", "rust", "rattle", "python")
 # By the kind of its block and the language of the code, the sources that have the names in it; Python is run.
 SOURCES = {"walks": {"c": ["callers/c/mavrihkel.h", "callers/c/walks.c", "callers/c/cases.h"],
                      "rust": ["callers/rust/src/lib.rs"],
-                     "rattle": [f"crates/{crate}/src/lib.rt" for crate in ("lent_comparison", "comparison", "two_walks")],
+                     "rattle": [f"crates/{crate}/src/lib.rt" for crate in ("lent_comparison", "comparison", "two_walks", "refusals")],
                      "python": ["second/walkers.py"]},
            "points": {"c": ["callers/c/mavrihkel.h", "callers/c/third_moments.c", "callers/c/cases.h"],
                       "rust": ["callers/rust/src/lib.rs", "callers/rust/src/third_moments.rs"],
-                      "rattle": [f"crates/{crate}/src/lib.rt" for crate in ("third_moments", "third_order")],
+                      "rattle": [f"crates/{crate}/src/lib.rt" for crate in ("third_moments", "third_order", "refusals")],
                       "python": ["second/figures.py", "second/third_moments.py"]}}
 LIST = re.compile(r"[\[{]([-\d, ]+)[\]}]")
 NAME = re.compile(r"(?:\.|::)([a-z]\w*)|\b([A-Za-z]\w*[\d_]\w*)\b")
