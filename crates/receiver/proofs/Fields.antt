@@ -6,7 +6,7 @@ use borrow.Author.Tests.{ne_eqb}
 use lib.Dec.{T, leb, eqb}
 use lib.Ieee.{Float, nan, inf, fin, binary32, odd, ne, is_nan, fits, of_fields, of_bits, to_bits}
 use lib.Ieee.Bits.{of_bits-to_bits}
-use lib.Ieee.Compare.{nan_differs}
+use lib.Ieee.Compare.{differs_from_itself, nan_differs}
 use lib.Ieee.Exact.{HasValue, odd_sign}
 use Rattle.std.specs.Float.{float_is_finite}
 use Rattle.receiver.specs.Floats.{not_finite}
@@ -38,6 +38,18 @@ unfolding float_is_finite not_finite
 by_library nan = refl
 by_library (inf s) = refl
 by_library (fin s m e) = refl
+
+-- What differs from itself is no number, and 33 refuses it.
+pub differing : (x : Float) → ne x x ≡ true → not_finite x ≡ true
+unfolding not_finite
+differing x h = ap not_finite (differs_from_itself x (subst T (sym h) tt))
+
+-- What is no number, 33 refuses.
+pub nan_refused : (x : Float) → is_nan x ≡ true → true ≡ not_finite x
+unfolding is_nan not_finite
+nan_refused nan h = refl
+nan_refused (inf s) h = absurd (subst T (sym h) tt)
+nan_refused (fin s m e) h = absurd (subst T (sym h) tt)
 
 -- What does not differ from itself has bits of its own.
 pub has_bits : (x : Float) → ne x x ≡ false → T (not (is_nan x))
