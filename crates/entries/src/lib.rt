@@ -11,7 +11,7 @@ use outline::Walk;
 use outline_answers::{EntryRefusal, WalkReply};
 use outline_calls::with_point;
 use receiver::{Entry, Fix, below_zero, not_finite};
-use walk_state::{OpenWalk, opened, reply};
+use walk_state::{OpenWalk, open_walk, opened, reply};
 
 // The walk that a fix leaves: that of its point.
 #[tactic(auto, using(crate::proofs::FixCases::fix_refused, crate::proofs::FixCases::fix_accepted))]
@@ -42,10 +42,8 @@ fn with_outage(walking: OpenWalk, seconds: f32) -> Result<Walk, EntryRefusal>
         return Err(EntryRefusal::BelowZero);
     }
     let w = walking.walk;
-    Ok(Walk {
-        outage: longer_outage(w.outage, seconds),
-        ..w
-    })
+    let longest = longer_outage(w.outage, seconds);
+    Ok(open_walk(w.kind, w.count, w.first, w.last, w.totals, longest))
 }
 
 // The walk that an entry leaves.

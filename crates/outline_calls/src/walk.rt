@@ -12,7 +12,7 @@ use crate::{add, add_edge};
 use limits::{outside_limits, position_outside};
 use outline::{Kind, Position, Sheet, Totals, Walk};
 use outline_answers::{EndRefusal, EndReply, Ended, PointRefusal, WalkReply};
-use walk_state::{OpenWalk, impossible_sheet, new_walk, opened, reply};
+use walk_state::{OpenWalk, impossible_sheet, new_walk, open_walk, opened, reply};
 
 // The walk with one point more. Its kind and its longest outage stay.
 #[tactic(auto, using(crate::proofs::WalkTotals::open_totals_within, crate::proofs::WalkTotals::open_last_inside), unfolding(outline::specs::WalkCalls::extended))]
@@ -23,19 +23,10 @@ fn extended(walking: OpenWalk, p: Position) -> Walk
 {
     let w = walking.walk;
     if w.count == 0 {
-        return Walk {
-            count: 1,
-            first: p,
-            last: p,
-            ..w
-        };
+        return open_walk(w.kind, 1, p, p, w.totals, w.outage);
     }
-    Walk {
-        count: w.count + 1,
-        last: p,
-        totals: add_edge(w.totals, w.last, p),
-        ..w
-    }
+    let sum = add_edge(w.totals, w.last, p);
+    open_walk(w.kind, w.count + 1, w.first, p, sum, w.outage)
 }
 
 // The walk that a point leaves.

@@ -24,7 +24,7 @@ const CLOSED: Walk = Walk {
     outage: 0.0,
 };
 
-// An open walk of these parts. What adds to one keeps its other fields.
+// Every open walk is made here.
 pub fn open_walk(
     kind: Kind,
     count: u32,
