@@ -37,6 +37,8 @@ const COEFFICIENT_LIMIT: u64 = 2;
 
 const SHIFT_LIMIT: u64 = 2000;
 
+const LARGEST: i64 = TOTAL_LIMIT as i64;
+
 // Refusal 3. All six tests are made and joined by `|`, so the code has one way through and no branch.
 fn map_outside_limits(m: AffineMap) -> bool
     ensures { result ≡ disallowed m }
@@ -128,12 +130,27 @@ fn bracket_totals(m: AffineMap, t: Totals) -> Totals
     }
 }
 
-// d × v, where it is within the limit of refusal 5.
+// Whether a total is over the limit of refusal 5. By two comparisons, which the compiler makes one: by the absolute value the map call took a third longer.
+#[tactic(auto, unfolding(outline::specs::EdgeSums::over))]
+fn over_limit(v: i64) -> bool
+    ensures { result ≡ over total_limit v }
+{
+    v < -LARGEST || LARGEST < v
+}
+
+// d × v, where it is within the limit of refusal 5. Times 8, a bracket may not fit 64 bits, so the product is made only of one within the limit.
 fn product(d: i64, v: i64) -> Option<i64>
+    requires { AtMost 8 d }
     ensures { result ≡ cond (over total_limit (d *ℤ v)) None (Some (d *ℤ v)) }
 {
-    let product = d.checked_mul(v)?;
-    if size_exceeds(product, TOTAL_LIMIT) {
+    if d == 0 {
+        return Some(0);
+    }
+    if over_limit(v) {
+        return None;
+    }
+    let product = d * v;
+    if over_limit(product) {
         return None;
     }
     Some(product)
@@ -141,6 +158,7 @@ fn product(d: i64, v: i64) -> Option<i64>
 
 // Each of the six times d, where refusal 5 lets them all through.
 fn scaled_by(d: i64, s: Totals) -> Option<Totals>
+    requires { AtMost 8 d }
     ensures { result ≡ cond (exceed total_limits (scaled d s)) None (Some (scaled d s)) }
 {
     Some(Totals {

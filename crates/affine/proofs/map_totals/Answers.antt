@@ -1,5 +1,5 @@
 -- `map_totals` answers as the map call: a refusal by the test that gave it, else the scaled brackets, which are the mapped totals.
-use mathlib.Core.Path.{refl, sym, ◌∙◌, ap}
+use mathlib.Core.Path.{refl, sym, ◌∙◌, ap, subst}
 use mathlib.Core.Bool.{cond}
 use Rattle.std.specs.Prelude.{Some, None}
 use Rattle.std.specs.Option.{ok_or}
@@ -10,8 +10,9 @@ use Rattle.outline.specs.MapCall.{mapped, total_limits}
 use Rattle.outline.proofs.Limits.{exceed_fit}
 use Rattle.affine.specs.declared.MapRefusal.TheVariants.{ResultOutsideLimits}
 use Rattle.affine.specs.Answer.{reading}
+use Rattle.affine.specs.private.Limits.{AtMost}
 use Rattle.affine.proofs.MappedTotals.{scaled-brackets, by_tests, told_or_refused}
-use Rattle.affine.proofs.WithinLimits.{map_within}
+use Rattle.affine.proofs.WithinLimits.{map_within, determinant_small}
 use Rattle.affine.proofs.map_totals.Goals as goal
 
 pub returns-then-map_outside_limits : goal.returns-then-map_outside_limits
@@ -30,6 +31,11 @@ bracket_totals-s-requires-clause-map_within c = map_within _ (tells c.map_outsid
 
 pub bracket_totals-s-requires-clause-fit : goal.bracket_totals-s-requires-clause-fit
 bracket_totals-s-requires-clause-fit c = exceed_fit outline_bounds c.args.t (tells c.outside_bounds.ensures c.if-outside_bounds.false)
+
+pub scaled_by-requires : goal.scaled_by-requires
+scaled_by-requires c =
+    let allowed = tells c.map_outside_limits.ensures c.if-map_outside_limits.false in
+    subst (AtMost 8) (sym (called refl c.map_determinant-d.type_inv c.map_determinant-d.ensures)) (determinant_small (map_within c.args.m allowed))
 
 pub returns : goal.returns
 returns c =
