@@ -6,7 +6,6 @@ ghost use Rattle.std.specs.Io.KnownBytes.{Appends, Consumes, IsAtEnd, Keeps};
 ghost use Rattle.text_program.specs.Program.{program};
 ghost use Rattle.plots.specs.Front.{AppendsFront};
 
-use std::fmt;
 use std::io::{Read, Write};
 use std::os::fd::AsRawFd;
 
@@ -15,15 +14,6 @@ use std::os::fd::AsRawFd;
 enum Failure {
     Unread,
     Unwritten,
-}
-
-impl fmt::Display for Failure {
-    fn fmt<W: fmt::Write>(&self, f: &mut fmt::Formatter<W>) -> fmt::Result {
-        match self {
-            Failure::Unread => write!(f, "the input could not be read"),
-            Failure::Unwritten => write!(f, "the output could not be written"),
-        }
-    }
 }
 
 // One read after the first `have` bytes; answers how many it gave. There is room: a read into none would look like the end of the input.
@@ -97,10 +87,15 @@ fn run<R: Read + AsRawFd, W: Write + AsRawFd>(
     }
 }
 
+// In one write, so that the lines of runs side by side do not mix.
 fn report<W: Write + AsRawFd>(errors: &mut W, failure: Failure)
     requires { W.raw_fd errors.old ≡ Some (pos 2) }
 {
-    let _ = writeln!(errors, "plots: {failure}");
+    let line = match failure {
+        Failure::Unread => "plots: the input could not be read\n",
+        Failure::Unwritten => "plots: the output could not be written\n",
+    };
+    let _ = write_all(errors, line.as_bytes());
 }
 
 fn main(rt: HostRuntime) {
