@@ -47,7 +47,7 @@ impl Refusal for CallRefusal {
 }
 
 // What an end that is refused tells, and every other call.
-pub(crate) const NOT_ENDED: Ended = Ended {
+const NOT_ENDED: Ended = Ended {
     totals: ZEROS,
     outage: 0.0,
 };
@@ -64,6 +64,15 @@ pub(crate) struct Held {
 pub(crate) struct Told {
     pub answer: Result<Ended, CallRefusal>,
     pub left: Held,
+}
+
+impl Told {
+    // What an end answers.
+    pub(crate) fn ended(self) -> Ended
+        ensures { result ≡ record { totals = (told_reading self).totals; outage = (told_reading self).outage } }
+    {
+        self.answer.unwrap_or(NOT_ENDED)
+    }
 }
 
 // A call that answers no totals and leaves the sheet as it is.

@@ -1,7 +1,11 @@
 // Fixes as points, each a row.
+ghost use Rattle.std.specs.Prelude.{◌≡◌};
+ghost use Rattle.fixes.specs.FixAnswers.{reading};
+
 use crate::floats::{INFINITY, TOO_FAR, fix_of, float_of, no_number};
-use fixes::fix_point;
-use outline::ORIGIN;
+use crate::show::{end_row, show, show_label};
+use fixes::{FixRefusal, fix_point};
+use outline::{ORIGIN, Position};
 use receiver::Fix;
 use refusals::Answer;
 
@@ -21,22 +25,35 @@ const FLOATS: [u32; 28] = [
     0x7F7FFFFF, 0xFF7FFFFF, 0x7F800000, 0xFF800000,
 ];
 
+// The point that an answer tells.
+fn point_told(answer: Result<Position, FixRefusal>) -> Position
+    ensures { result ≡ (reading answer).point }
+{
+    answer.unwrap_or(ORIGIN)
+}
+
 // Number, x and y; then the row ends.
 fn show_answer(rt: &impl Print, fix: Fix) {
     let answer = fix_point(fix);
-    let point = answer.unwrap_or(ORIGIN);
-    let _ = println!(rt; "\t{}\t{}\t{}", answer.number(), point.x, point.y);
+    let point = point_told(answer);
+    show(rt, answer.number());
+    show(rt, point.x);
+    show(rt, point.y);
+    end_row(rt);
 }
 
 // Asked: the bits of east and of north. Answered: number, x, y.
 fn fix_row(rt: &impl Print, east: u32, north: u32) {
-    let _ = print!(rt; "fix\t{east}\t{north}");
+    show_label(rt, "fix");
+    show(rt, east);
+    show(rt, north);
     show_answer(rt, fix_of(east, north));
 }
 
 // A fix of which one float is not a number. Asked: the bits of the other. Answered: the same.
 fn no_number_row(rt: &impl Print, other: u32, fix: Fix) {
-    let _ = print!(rt; "fix-nan\t{other}");
+    show_label(rt, "fix-nan");
+    show(rt, other);
     show_answer(rt, fix);
 }
 

@@ -7,6 +7,7 @@ mod draws;
 mod fix_rows;
 mod floats;
 mod full_walk;
+mod show;
 mod walk_rows;
 
 fn main(rt: HostRuntime) {

@@ -4,10 +4,11 @@ ghost use Rattle.worked_entries.specs.BitFloats.{fix_of};
 ghost use Rattle.worked_entries.specs.Calls.{told_reading, carried_out};
 ghost use Rattle.worked_entries.specs.Draws.{after_call};
 
-use crate::calls::{Call, Held, NOT_ENDED, Told, carry_out};
+use crate::calls::{Call, Held, Told, carry_out};
 use crate::draws::{Drawn, FIRST_STATE, drawn_call};
 use crate::floats::{INFINITY, TOO_FAR, bits_of, fix_of};
 use crate::full_walk::full_walk;
+use crate::show::{end_row, show, show_label, show_word};
 use receiver::Entry;
 use refusals::Answer;
 use walk_state::{new_sheet, new_walk};
@@ -15,22 +16,19 @@ use walk_state::{new_sheet, new_walk};
 // The call; its number, the walk's count and longest outage afterwards; with an end also the six totals and the longest outage that it answers.
 fn show_told(rt: &impl Print, call: Call, told: Told) {
     let walk = told.left.walk;
-    let _ = print!(rt;
-        "\t{call}\t{}\t{}\t{}",
-        told.answer.number(),
-        walk.count,
-        bits_of(walk.outage)
-    );
+    show_word(rt, call);
+    show(rt, told.answer.number());
+    show(rt, walk.count);
+    show(rt, bits_of(walk.outage));
     if let Call::End = call {
-        let ended = told.answer.unwrap_or(NOT_ENDED);
+        let ended = told.ended();
         let t = ended.totals;
-        let _ = print!(rt;
-            "\t{}\t{}\t{}\t{}\t{}\t{}",
-            t.a2, t.x6, t.y6, t.xx12, t.xy24, t.yy12
-        );
-        let _ = print!(rt; "\t{}", bits_of(ended.outage));
+        for total in &[t.a2, t.x6, t.y6, t.xx12, t.xy24, t.yy12] {
+            show(rt, *total);
+        }
+        show(rt, bits_of(ended.outage));
     }
-    let _ = println!(rt;);
+    end_row(rt);
 }
 
 // The call that is drawn next, with its step, from 1 on.
@@ -40,7 +38,8 @@ fn call_row(rt: &impl Print, step: u32, given: Drawn<Held>) -> Drawn<Held>
 {
     let drawn = drawn_call(given.state);
     let told = carry_out(drawn.value, given.value);
-    let _ = print!(rt; "call\t{step}");
+    show_label(rt, "call");
+    show(rt, step);
     show_told(rt, drawn.value, told);
     Drawn {
         value: told.left,
@@ -68,7 +67,7 @@ fn full_row(rt: &impl Print, call: Call, held: Held) -> Told
     ensures { told_reading result ≡ carried_out call held }
 {
     let told = carry_out(call, held);
-    let _ = print!(rt; "full");
+    show_label(rt, "full");
     show_told(rt, call, told);
     told
 }

@@ -1,5 +1,5 @@
 // Two walks of one plot compared, document 02, CR 5, each pair a row: both orders, one list twice, and what is refused first.
-use crate::show::{end_row, show, show_each, show_label};
+use crate::show::{end_row, show, show_each, show_label, show_word};
 use comparison_replies::compare_walks_reply;
 
 // Two lists. Asked: their names. Answered: number, six differences, the distances from the first's points to the second and from the second's to the first, which list is
@@ -14,8 +14,8 @@ fn compare_row<'a>(
     let mut values = [0; 10];
     let number = compare_walks_reply(first, second, &mut values);
     show_label(rt, "compare");
-    show(rt, first_name);
-    show(rt, second_name);
+    show_word(rt, first_name);
+    show_word(rt, second_name);
     show(rt, number);
     show_each(rt, &values);
     end_row(rt);

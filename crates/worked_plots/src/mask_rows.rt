@@ -1,12 +1,13 @@
 // Masks of document 02, each a row: the totals of the ground under the marked cells, and the caller's list once its longest runs are written. Every record of the list is
 // row 7, first column 8, length 9 before.
-ghost use Rattle.std.specs.Prelude.{◌≡◌, ◌≤◌};
+ghost use Rattle.std.specs.Prelude.{◌≡◌, ◌≤◌, []};
+ghost use Rattle.masks.specs.MaskAnswers.{runs_reading};
 ghost use Rattle.worked_plots.specs.Masks.{four_runs, one_run_more};
 
 use crate::show::{end_row, show, show_label, show_run, show_totals};
 use cells::Run;
 use mask_array::mask_runs_of;
-use masks::mask_totals;
+use masks::{MaskRunsRefusal, mask_totals};
 use outline_answers::totals_of;
 use refusals::Answer;
 
@@ -49,6 +50,13 @@ fn show_records(rt: &impl Print, runs: &[Run]) {
     }
 }
 
+// How many runs an answer tells.
+fn count_told(answer: Result<usize, MaskRunsRefusal>) -> usize
+    ensures { result ≡ (runs_reading answer []).count }
+{
+    answer.unwrap_or(0)
+}
+
 // Asked: words. Answered: number, six totals.
 fn totals_row(rt: &impl Print, words: &[u64]) {
     let answer = mask_totals(words);
@@ -69,7 +77,7 @@ fn written_row(rt: &impl Print, label: &str, words: &[u64], records: usize, show
     show(rt, words.len());
     show(rt, records);
     show(rt, reply.answer.number());
-    show(rt, reply.answer.unwrap_or(0));
+    show(rt, count_told(reply.answer));
     show_records(rt, &reply.runs[shown..records]);
     end_row(rt);
 }

@@ -11,6 +11,11 @@ pub(crate) fn show<T: Display + Copy>(rt: &impl Print, field: T) {
     let _ = print!(rt; "\t{field}");
 }
 
+pub(crate) fn show_word(rt: &impl Print, word: &str) {
+    let _ = print!(rt; "\t");
+    let _ = print!(rt; "{word}");
+}
+
 pub(crate) fn show_each(rt: &impl Print, fields: &[i64]) {
     for field in fields {
         show(rt, *field);
@@ -31,8 +36,8 @@ pub(crate) fn show_position(rt: &impl Print, p: Position) {
 
 pub(crate) fn show_kind(rt: &impl Print, kind: Kind) {
     match kind {
-        Kind::Island => show(rt, "island"),
-        Kind::Hole => show(rt, "hole"),
+        Kind::Island => show_word(rt, "island"),
+        Kind::Hole => show_word(rt, "hole"),
     }
 }
 

@@ -1,15 +1,25 @@
 // Third moments of outlines, document 02, CR 10, each a row: the plots worked by hand, both sides of the limit of 35, and what is refused first.
-use crate::show::{end_row, show, show_each, show_label};
+ghost use Rattle.std.specs.Prelude.{◌≡◌};
+ghost use Rattle.third_moments.specs.ThirdAnswers.{reading};
+
+use crate::show::{end_row, show, show_each, show_label, show_word};
 use refusals::Answer;
-use third_moments::third_moments;
-use third_order::NO_THIRDS;
+use third_moments::{ThirdRefusal, third_moments};
+use third_order::{NO_THIRDS, ThirdTotals};
+
+// The totals that an answer tells.
+fn thirds_told(answer: Result<ThirdTotals, ThirdRefusal>) -> ThirdTotals
+    ensures { result ≡ (reading answer).totals }
+{
+    answer.unwrap_or(NO_THIRDS)
+}
 
 // A list. Asked: its name. Answered: number, four totals by falling power of x.
 fn third_row(rt: &impl Print, name: &str, points: &[i32]) {
     let answer = third_moments(points);
-    let totals = answer.unwrap_or(NO_THIRDS);
+    let totals = thirds_told(answer);
     show_label(rt, "third");
-    show(rt, name);
+    show_word(rt, name);
     show(rt, answer.number());
     show_each(
         rt,
