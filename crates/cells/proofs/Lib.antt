@@ -4,6 +4,7 @@ pub mod RegionCases
 pub mod RefusalLaw
 mod NumberChosen
 pub mod LowestIndex
+pub mod Tests
 pub mod GridLaws
 pub mod ClosedSums
 mod AnnexSums

@@ -1,6 +1,6 @@
 -- Totals that 11 and 27 do not refuse give a quotient whose steps fit 64 bits, over a D above 0.
 use Prim.Native.Nat.{zero, suc, min, ◌*◌, ◌≤◌}
-use mathlib.Core.Path.{◌≡◌, refl, sym, ◌∙◌, ap}
+use mathlib.Core.Path.{◌≡◌, refl, sym, ◌∙◌, ap, subst₂}
 use mathlib.Core.Bool.{Bool, true, false, cond}
 use mathlib.Core.List.{[], ◌∷◌}
 use native.Mathlib.Omega.{arith}
@@ -14,7 +14,7 @@ use Rattle.integers.proofs.Order.{orders, nat_abs_parts, lt_parts, lt_false, lt_
 use Rattle.integers.proofs.Linear.{→<}
 use Rattle.integers.proofs.Bounds.{within}
 use Rattle.outline.specs.MapCall.{total_limit}
-use Rattle.centroid.specs.Centroid.{signed_by}
+use Rattle.centroid.specs.Centroid.{centred, signed_by}
 use Rattle.centroid.specs.private.Quotient.{QuotientBounds}
 
 -- ---- the signs turned, as the code turns them
@@ -55,6 +55,24 @@ module _ (n a : ℤ) (hn : nat_abs n ≤ total_limit) (ha : nat_abs a ≤ total_
         above = →< (a ∷ []) (search quote depth 20) (search quote depth 20) (omega (arith, lt_parts p));
       }
 
+  -- The two cases apart: an area above 0,
+  pub bounds_above : lt_z a (pos 0) ≡ false → QuotientBounds n (pos 3 *ℤ a)
+  bounds_above = by_sign false
+
+  -- and one below 0, all negated.
+  pub bounds_below : lt_z a (pos 0) ≡ true → QuotientBounds (neg_ℤ n) (neg_ℤ (pos 3 *ℤ a))
+  bounds_below = by_sign true
+
   pub quotient_bounds : QuotientBounds (signed_by a n) (signed_by a (pos 3 *ℤ a))
   unfolding signed_by
   quotient_bounds = by_sign (lt_z a (pos 0)) refl
+
+-- ---- equal numbers
+
+-- Numbers equal to those within the bounds are within them,
+pub same_bounds : {n n' d d' : ℤ} → n' ≡ n → d' ≡ d → QuotientBounds n d → QuotientBounds n' d'
+same_bounds e f b = subst₂ QuotientBounds (sym e) (sym f) b
+
+-- and equal numbers have the same centre.
+pub same_centre : {x x' y y' d d' : ℤ} → x' ≡ x → y' ≡ y → d' ≡ d → centred x' y' d' ≡ centred x y d
+same_centre e f g i = centred (e i) (f i) (g i)

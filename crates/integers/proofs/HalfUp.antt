@@ -1,18 +1,18 @@
 -- For every D above 0, N / D rounded half up satisfies document 01's inequality, and no other whole number does.
 -- Existence: the quotient rounded down of 2×N + D and 2×D satisfies it and is no greater in size than N, so the search finds one. Uniqueness is `nearest_unique`.
 use Prim.Native.Nat.{ℕ, zero, suc, ◌+◌, ◌*◌, ◌-◌, ◌/◌, ◌<◌}
-use mathlib.Core.Path.{◌≡◌, refl, sym}
+use mathlib.Core.Path.{◌≡◌, refl, sym, ◌∙◌}
 use mathlib.Core.Bool.{Bool, true, false, ◌&&◌, cond}
 use mathlib.Core.List.{List, [], ◌∷◌}
 use native.Mathlib.Omega.{arith}
 use lib.Dec.{T}
 use lib.IntN.{ℤ, pos, neg_ℤ, nat_abs, ◌+ℤ◌, ◌-ℤ◌, ◌*ℤ◌, +ℤ_idr, +ℤ_assoc}
-use lib.Signed.{◌≤ℤ◌, ◌<ℤ◌, le_z, lt_z}
+use lib.Signed.{◌≤ℤ◌, ◌<ℤ◌, le_z, lt_z, quot_z, rem_z}
 use Rattle.std.specs.Int.{int_div_euclid}
 use Rattle.integers.proofs.Ring.{quote}
 use Rattle.integers.proofs.Order.{pp, nn, parts, nat_abs_parts, sum_parts, pp_neg, nn_neg, orders, lt_parts, le_true, lt_true, mul_mono, not_lt}
 use Rattle.integers.proofs.Linear.{≤→, →≤, <→, →<}
-use Rattle.integers.proofs.Floor.{Nearest, nearest_is, nearest_unique}
+use Rattle.integers.proofs.Floor.{Nearest, nearest_is, nearest_z_is, nearest_unique}
 use Rattle.integers.specs.Rounding.{rounds_to, first_rounded, round_half_up}
 
 -- ---- the test and the inequality
@@ -119,6 +119,10 @@ half_up_nearest n d h = test_nearest (half_up_holds n d h)
 -- The quotient rounded is that of 2×N + D and 2×D rounded down.
 pub euclid_rounds : (n d : ℤ) → pos 0 <ℤ d → int_div_euclid (pos 2 *ℤ n +ℤ d) (pos 2 *ℤ d) ≡ round_half_up n d
 euclid_rounds n d h = nearest_half_up n d _ h (nearest_is n d h)
+
+-- The same by the quotient toward zero, less 1 where the remainder is negative.
+pub rounded_down : (n d : ℤ) → pos 0 <ℤ d → (b : Bool) {z : ℤ} → lt_z (rem_z (pos 2 *ℤ n +ℤ d) (pos 2 *ℤ d)) (pos 0) ≡ b → z ≡ cond b (quot_z (pos 2 *ℤ n +ℤ d) (pos 2 *ℤ d) -ℤ pos 1) (quot_z (pos 2 *ℤ n +ℤ d) (pos 2 *ℤ d)) → z ≡ round_half_up n d
+rounded_down n d h b t e = e ∙ rw (← t) (nearest_half_up n d _ h (nearest_z_is n d h))
 
 -- The same of natural numbers.
 pub half_up_natural : (n d : ℕ) → 0 < d → round_half_up (pos n) (pos d) ≡ pos ((2 * n + d) / (2 * d))

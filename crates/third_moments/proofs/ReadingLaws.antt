@@ -8,7 +8,7 @@ use Rattle.third_order.specs.declared.ThirdTotals.{ThirdTotals}
 use Rattle.third_order.specs.ThirdCall.{ThirdOutcome}
 use Rattle.third_moments.specs.declared.ThirdRefusal.{ThirdRefusal}
 use Rattle.third_moments.specs.declared.ThirdRefusal.TheVariants.{WrongLength, OutsideLimits, TooFarForThirdMoments}
-use Rattle.third_moments.specs.ThirdAnswers.{third_number, reading}
+use Rattle.third_moments.specs.ThirdAnswers.{reading}
 
 abbrev answer_of : ThirdOutcome → Result ThirdTotals ThirdRefusal
 answer_of r = cond (eqb r.number 2) (Err WrongLength) (cond (eqb r.number 1) (Err OutsideLimits) (cond (eqb r.number 35) (Err TooFarForThirdMoments) (Ok r.totals)))
@@ -26,7 +26,7 @@ reading_one_to_one a b e = sym (answer_back a) ∙ ap answer_of e ∙ answer_bac
 
 record Numbered : Type 0 where
   accepted : (t : ThirdTotals) → (reading (Ok t)).number ≡ 0
-  refused : map third_number (OutsideLimits ∷ WrongLength ∷ TooFarForThirdMoments ∷ []) ≡ 1 ∷ 2 ∷ 35 ∷ []
+  refused : map (λ r. (reading (Err r)).number) (OutsideLimits ∷ WrongLength ∷ TooFarForThirdMoments ∷ []) ≡ 1 ∷ 2 ∷ 35 ∷ []
 
 numbered : Numbered
 numbered = record { accepted = λ t. refl; refused = refl }
